@@ -1,0 +1,19 @@
+-- What a call says. Document 01, "What a call says": "Numbers: 0 done, 1 waiting (stage 12, Locked 1), 2 admitted, 3 joined,
+-- 4 left (stage 14), 5 release finished (the step that returns to idle). Taking the log answers 0 and its length."
+use Prim.Native.Nat.{ℕ}
+use Rattle.stage.specs.declared.Answer.{Answer}
+use Rattle.stage.specs.declared.Event.{Event}
+use Rattle.stage.specs.declared.Event.the-variants.{Done, Waiting, Admitted, Joined, Left, Finished, Taken}
+
+abbrev pub numberOf : Event → ℕ
+numberOf Done = 0
+numberOf Waiting = 1
+numberOf (Admitted module·) = 2
+numberOf Joined = 3
+numberOf Left = 4
+numberOf Finished = 5
+numberOf (Taken length) = 0
+
+-- the answer for an event: its number, and it
+abbrev pub answerOf : Event → Answer
+answerOf e = record { number = numberOf e; event = e }

@@ -1,0 +1,5 @@
+pub mod Answers
+pub mod Rows
+pub mod Table
+pub mod Calls
+pub mod Sound

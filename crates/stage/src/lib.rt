@@ -1,0 +1,526 @@
+// The stage table: one step of one module, by value.
+//
+// 01, "The stage table". Of each module, what only the module itself writes (`Private`) stands apart from what others may touch
+// (`Shared`). A row reads or writes the shared part of ONE module, the one that `looks_at` names, or the lock word. So `step` takes
+// the stepping module's private part, that one shared part and the lock word, and answers what each is afterwards.
+use link::Link;
+use link::Swapped;
+ghost use mathlib.Core.Path.{_≡_};
+ghost use lib.Dec.{leb};
+ghost use Rattle.link.specs.Count.{next, size};
+ghost use Rattle.stage.specs.Answers.{answerOf};
+ghost use Rattle.stage.specs.Calls.{within};
+ghost use Rattle.stage.specs.Rows.{goes, withOwn, withPriority, looksAt, stepped};
+ghost use Rattle.stage.specs.Sound.{at, soundLink, soundOwn, soundStage, soundPrivate, soundShared};
+
+// What only the module itself writes.
+pub struct Private {
+    pub stage: u8,
+    pub own: u8,
+    pub prev: u8,
+    pub w: Link,
+    pub s: u8,
+}
+
+// What other modules may touch.
+pub struct Shared {
+    pub link: Link,
+    pub priority: u8,
+    pub locked: u8,
+}
+
+// What happened, with the admitted module and the length of the log taken.
+pub enum Event {
+    Done,
+    Waiting,
+    Admitted(u8),
+    Joined,
+    Left,
+    Finished,
+    Taken(u16),
+}
+
+// An accepted call's answer: 01's number for what happened, and what happened.
+pub struct Answer {
+    pub number: u8,
+    pub event: Event,
+}
+
+// What a call says: a refusal's number alone, or an answer.
+pub enum Reply {
+    Refused(u8),
+    Answered(Answer),
+}
+
+// What a step leaves: the module's private part, the shared part that it looked at, the lock word, and the answer.
+pub struct Stepped {
+    pub me: Private,
+    pub its: Shared,
+    pub lock: u8,
+    pub answer: Answer,
+}
+
+impl Answer {
+    pub const DONE: Answer = Answer {
+        number: 0,
+        event: Event::Done,
+    };
+
+    pub const WAITING: Answer = Answer {
+        number: 1,
+        event: Event::Waiting,
+    };
+
+    pub const JOINED: Answer = Answer {
+        number: 3,
+        event: Event::Joined,
+    };
+
+    pub const LEFT: Answer = Answer {
+        number: 4,
+        event: Event::Left,
+    };
+
+    pub const FINISHED: Answer = Answer {
+        number: 5,
+        event: Event::Finished,
+    };
+
+    pub fn admitted(p: u8) -> Answer
+        ensures { λ r. ⌜ r ≡ answerOf (Event.Admitted p) ⌝ }
+    {
+        Answer {
+            number: 2,
+            event: Event::Admitted(p),
+        }
+    }
+
+    pub fn taken(length: u16) -> Answer
+        ensures { λ r. ⌜ r ≡ answerOf (Event.Taken length) ⌝ }
+    {
+        Answer {
+            number: 0,
+            event: Event::Taken(length),
+        }
+    }
+}
+
+// Whose shared part the module p looks at in its step.
+pub fn looks_at(me: Private, p: u8) -> u8
+    ensures { λ r. ⌜ r ≡ looksAt p me ⌝ }
+{
+    let stage = me.stage;
+    match stage {
+        5 => me.prev,
+        6 => me.prev,
+        7 => me.w.pointer,
+        9 => me.prev,
+        10 => me.prev,
+        17 => me.s,
+        18 => me.s,
+        _ => p,
+    }
+}
+
+// One step of the module p: the row of its stage. At 0 and 13, and at a number that is no stage, there is none.
+pub fn step(p: u8, mut me: Private, mut its: Shared, lock: u8) -> Stepped
+    ensures { λ r. ⌜ r ≡ stepped (next size) p me its lock ⌝ }
+{
+    let stage = me.stage;
+    match stage {
+        0 => Stepped {
+            me,
+            its,
+            lock,
+            answer: Answer::DONE,
+        },
+        1 => {
+            its.link = its.link.point(0);
+            me.stage = 2;
+            Stepped {
+                me,
+                its,
+                lock,
+                answer: Answer::DONE,
+            }
+        }
+        2 => {
+            if lock == 0 {
+                me.stage = 3;
+                return Stepped {
+                    me,
+                    its,
+                    lock: p,
+                    answer: Answer::JOINED,
+                };
+            }
+            me.prev = lock;
+            me.stage = 4;
+            Stepped {
+                me,
+                its,
+                lock,
+                answer: Answer::DONE,
+            }
+        }
+        3 => {
+            its.link = its.link.open();
+            me.stage = 13;
+            Stepped {
+                me,
+                its,
+                lock,
+                answer: Answer::admitted(p),
+            }
+        }
+        4 => {
+            its.locked = 1;
+            me.stage = 5;
+            Stepped {
+                me,
+                its,
+                lock,
+                answer: Answer::DONE,
+            }
+        }
+        5 => {
+            let found = its.link;
+            me.w = found;
+            if found.mark == link::CLOSED {
+                me.stage = 1;
+                return Stepped {
+                    me,
+                    its,
+                    lock,
+                    answer: Answer::DONE,
+                };
+            }
+            me.stage = 6;
+            Stepped {
+                me,
+                its,
+                lock,
+                answer: Answer::DONE,
+            }
+        }
+        6 => {
+            if its.priority < me.own {
+                me.stage = 1;
+                return Stepped {
+                    me,
+                    its,
+                    lock,
+                    answer: Answer::DONE,
+                };
+            }
+            if me.w.pointer == 0 {
+                me.stage = 8;
+                return Stepped {
+                    me,
+                    its,
+                    lock,
+                    answer: Answer::DONE,
+                };
+            }
+            me.stage = 7;
+            Stepped {
+                me,
+                its,
+                lock,
+                answer: Answer::DONE,
+            }
+        }
+        7 => {
+            if its.priority < me.own {
+                me.stage = 8;
+                return Stepped {
+                    me,
+                    its,
+                    lock,
+                    answer: Answer::DONE,
+                };
+            }
+            me.prev = me.w.pointer;
+            me.stage = 5;
+            Stepped {
+                me,
+                its,
+                lock,
+                answer: Answer::DONE,
+            }
+        }
+        8 => {
+            its.link = its.link.point(me.w.pointer);
+            me.stage = 9;
+            Stepped {
+                me,
+                its,
+                lock,
+                answer: Answer::DONE,
+            }
+        }
+        9 => {
+            let swapped = its.link.swap(me.w, p);
+            match swapped {
+                Swapped::Done(now) => {
+                    its.link = now;
+                    me.stage = 11;
+                    Stepped {
+                        me,
+                        its,
+                        lock,
+                        answer: Answer::JOINED,
+                    }
+                }
+                Swapped::Failed(found) => {
+                    me.w = found;
+                    if found.mark == link::CLOSED {
+                        me.stage = 1;
+                        return Stepped {
+                            me,
+                            its,
+                            lock,
+                            answer: Answer::DONE,
+                        };
+                    }
+                    me.stage = 10;
+                    Stepped {
+                        me,
+                        its,
+                        lock,
+                        answer: Answer::DONE,
+                    }
+                }
+            }
+        }
+        10 => {
+            if its.priority < me.own {
+                me.stage = 1;
+                return Stepped {
+                    me,
+                    its,
+                    lock,
+                    answer: Answer::DONE,
+                };
+            }
+            me.stage = 5;
+            Stepped {
+                me,
+                its,
+                lock,
+                answer: Answer::DONE,
+            }
+        }
+        11 => {
+            its.link = its.link.open();
+            me.stage = 12;
+            Stepped {
+                me,
+                its,
+                lock,
+                answer: Answer::DONE,
+            }
+        }
+        12 => {
+            if its.locked == 0 {
+                me.stage = 13;
+                return Stepped {
+                    me,
+                    its,
+                    lock,
+                    answer: Answer::admitted(p),
+                };
+            }
+            Stepped {
+                me,
+                its,
+                lock,
+                answer: Answer::WAITING,
+            }
+        }
+        13 => Stepped {
+            me,
+            its,
+            lock,
+            answer: Answer::DONE,
+        },
+        14 => {
+            its.link = its.link.close();
+            me.stage = 15;
+            Stepped {
+                me,
+                its,
+                lock,
+                answer: Answer::LEFT,
+            }
+        }
+        15 => {
+            me.s = its.link.pointer;
+            me.stage = 16;
+            Stepped {
+                me,
+                its,
+                lock,
+                answer: Answer::DONE,
+            }
+        }
+        16 => {
+            if me.s == 0 {
+                me.own = 0;
+                me.stage = 0;
+                return Stepped {
+                    me,
+                    its,
+                    lock: me.s,
+                    answer: Answer::FINISHED,
+                };
+            }
+            me.stage = 17;
+            Stepped {
+                me,
+                its,
+                lock: me.s,
+                answer: Answer::DONE,
+            }
+        }
+        17 => {
+            its.priority = 255;
+            me.stage = 18;
+            Stepped {
+                me,
+                its,
+                lock,
+                answer: Answer::DONE,
+            }
+        }
+        18 => {
+            its.locked = 0;
+            me.own = 0;
+            me.stage = 0;
+            Stepped {
+                me,
+                its,
+                lock,
+                answer: Answer::FINISHED,
+            }
+        }
+        _ => Stepped {
+            me,
+            its,
+            lock,
+            answer: Answer::DONE,
+        },
+    }
+}
+
+// Begin acquisition: the given priority becomes the module's own; stage 1.
+pub fn begun_acquisition(mut me: Private, priority: u8) -> Private
+    ensures { λ r. ⌜ r ≡ goes 1 (withOwn priority me) ⌝ }
+{
+    me.own = priority;
+    me.stage = 1;
+    me
+}
+
+// Begin acquisition: the given priority goes into the record.
+pub fn with_priority(mut its: Shared, priority: u8) -> Shared
+    ensures { λ r. ⌜ r ≡ withPriority priority its ⌝ }
+{
+    its.priority = priority;
+    its
+}
+
+// Begin release: stage 14.
+pub fn begun_release(mut me: Private) -> Private
+    ensures { λ r. ⌜ r ≡ goes 14 me ⌝ }
+{
+    me.stage = 14;
+    me
+}
+
+fn sound_link(n: u8, l: Link) -> bool
+    ensures { λ r. ⌜ r ≡ soundLink n l ⌝ }
+{
+    if n < l.pointer {
+        return false;
+    }
+    l.mark <= 1
+}
+
+// Whether x lies between the two.
+pub fn is_within(low: u8, high: u8, x: u8) -> bool
+    ensures { λ r. ⌜ r ≡ within low high x ⌝ }
+{
+    if x < low {
+        return false;
+    }
+    x <= high
+}
+
+// Whether own priority is 0 at stage 0 and 1 to 254 elsewhere.
+fn sound_own(stage: u8, own: u8) -> bool
+    ensures { λ r. ⌜ r ≡ soundOwn stage own ⌝ }
+{
+    match stage {
+        0 => own == 0,
+        _ => is_within(1, 254, own),
+    }
+}
+
+// Whether x isn't 0 at the stages from one to another.
+fn set_at(low: u8, high: u8, stage: u8, x: u8) -> bool
+    ensures { λ r. ⌜ r ≡ at (within low high stage) (leb 1 x) ⌝ }
+{
+    if stage < low {
+        return true;
+    }
+    if high < stage {
+        return true;
+    }
+    1 <= x
+}
+
+// Whether a module's stage allows its own priority, prev, w's pointer and s.
+fn sound_stage(stage: u8, own: u8, prev: u8, pointer: u8, s: u8) -> bool
+    ensures { λ r. ⌜ r ≡ soundStage stage own prev pointer s ⌝ }
+{
+    if 18 < stage {
+        return false;
+    }
+    if !sound_own(stage, own) {
+        return false;
+    }
+    if !set_at(4, 10, stage, prev) {
+        return false;
+    }
+    if !set_at(7, 7, stage, pointer) {
+        return false;
+    }
+    set_at(17, 18, stage, s)
+}
+
+// Whether a module's private part is sound in a table of n modules.
+pub fn sound_private(n: u8, me: Private) -> bool
+    ensures { λ r. ⌜ r ≡ soundPrivate n me ⌝ }
+{
+    if !sound_link(n, me.w) {
+        return false;
+    }
+    if n < me.prev {
+        return false;
+    }
+    if n < me.s {
+        return false;
+    }
+    sound_stage(me.stage, me.own, me.prev, me.w.pointer, me.s)
+}
+
+// Whether a module's shared part is sound in a table of n modules.
+pub fn sound_shared(n: u8, its: Shared) -> bool
+    ensures { λ r. ⌜ r ≡ soundShared n its ⌝ }
+{
+    if !sound_link(n, its.link) {
+        return false;
+    }
+    its.locked <= 1
+}
