@@ -1,0 +1,1 @@
+// The five calls on an image of edition 1.

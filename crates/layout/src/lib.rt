@@ -1,0 +1,1 @@
+// Where the parts of a record lie in an image of edition 1.

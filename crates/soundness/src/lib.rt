@@ -1,0 +1,1 @@
+// Whether an image of edition 1 is sound.
