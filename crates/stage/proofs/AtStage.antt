@@ -6,6 +6,7 @@ use mathlib.Core.List.{List, [], _∷_}
 use Prim.Native.Nat.{ℕ}
 use lib.Dec.{T, eqb, eqb→eq}
 use borrow.Author.Tests.{eq-eqb, ne-eqb, lt-ltb, le-ltb}
+use Rattle.laws.proofs.Only.{among}
 use Rattle.stage.specs.Rows.{Entry, at, itself, noStep, find, rows, looksAt, stepped}
 use Rattle.stage.specs.declared.Private.{Private}
 use Rattle.stage.specs.declared.Shared.{Shared}
@@ -26,10 +27,6 @@ pub ruleset tests = (at-stage, looks-at-stage, eq-eqb, ne-eqb, lt-ltb, le-ltb)
 abbrev pub NoneOf : List ℕ → ℕ → Type 0
 NoneOf [] k = Unit {0}
 NoneOf (j ∷ js) k = NoneOf js k × (k ≡ j → ⊥)
-
-abbrev pub among : ℕ → List ℕ → Bool
-among k [] = false
-among k (j ∷ js) = eqb k j || among k js
 
 one-of : (b : Bool) (rest : Bool) → (T b → ⊥) → (T rest → ⊥) → T (b || rest) → ⊥
 one-of true rest no·b no·rest t = no·b tt

@@ -1,0 +1,16 @@
+pub mod Places
+pub mod ByStage
+pub mod Invariant
+pub mod Facts
+pub mod Tables
+pub mod Calm
+pub mod Kept
+pub mod Seeking
+pub mod After
+pub mod SeekingRows
+pub mod HoldingRows
+pub mod Leaving
+pub mod Others
+pub mod Handing
+pub mod Taking
+pub mod Joining

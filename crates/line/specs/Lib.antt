@@ -1,0 +1,3 @@
+pub mod PlainLine
+pub mod History
+pub mod Demand3

@@ -1,0 +1,1 @@
+// No code: what demand 3 says, and its proof of the machine.
