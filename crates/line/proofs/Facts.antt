@@ -4,6 +4,7 @@ use mathlib.Core.Path.{_≡_, refl, sym, _∙_, ap, subst, subst⁻¹}
 use mathlib.Core.List.{List, [], _∷_}
 use mathlib.Core.Logic.{_≢_, _⊎_, inl, inr, ⊎-elim}
 use lib.Dec.{T}
+use native.Mathlib.Omega.{arith}
 use Rattle.laws.proofs.Only.{among, disjoint, included, either}
 use Rattle.stage.specs.declared.Private.{Private}
 use Rattle.stage.specs.declared.Shared.{Shared}
@@ -87,3 +88,7 @@ module _ {g : ℕ → ℕ} {private : ℕ → Private} {sh : ℕ → Shared} {lo
       (λ c. let f = i .holder .handing c in absurd (not-nil (head l) (head-in (head l) (f .2) refl) (sym (f .0) ∙ z)))
       (either (15 ∷ 16 ∷ []) (17 ∷ 18 ∷ []) k x)))
       (kinds k (i .stands h .known))
+
+  -- a module that waits with Locked 0 is the holder
+  pub freed-first : (q : ℕ) → private q .stage ≡ 12 → sh q .locked ≡ 0 → q ≡ h
+  freed-first q e z = ⊎-elim (λ a. a .0) (λ a. absurd (omega (arith, z, a .1))) (stands-at q 12 e .waits tt .1)

@@ -41,90 +41,109 @@ module _ (o : Course) {private : ℕ → Private} {sh : ℕ → Shared} {lock : 
 
   pub row17-keeps : private p .stage ≡ 17 → After o private sh p (private p .s) (row17 suc p (private p) (sh (private p .s)) lock)
   unfolding row17 stepping
-  row17-keeps e =
-      (h
-      , record {
-          stands =
-              upd-all private p me′ (λ q me. Stands l h q (me .stage) (sh′ q .locked)) (held-stands l h p 18 _ (lit≤ tt) tt e′)
-              (λ q n. subst⁻¹ (λ (k : ℕ). Stands l h q (private q .stage) k) (upd-all sh s its′ (λ q z. z .locked ≡ sh q .locked) refl (λ q n. refl) q) (i .stands q));
-          seeks = other-seeks i p s me′ its′ into (inl refl) (i .bytes s) only·first tt;
-          holder =
-              upd-all private p me′ (λ q me. q ≡ h → Holder q (me .stage) me (sh′ q) lock l)
-              (λ _. record { free = absurd; first = absurd; away = holder-at i p 17 e e′ .away; closing = absurd; next = absurd; handing = λ _. f })
-              (λ q n z. absurd (n (z ∙ sym e′)))
-              h refl;
-          nobody = nobody′ me′;
-          distinct = i .distinct;
-          chain = chain-map (λ q. sh q .link .pointer) (λ q. sh′ q .link .pointer) l (λ q _. ap (λ k. k .pointer) (same-link s its′ refl q)) (i .chain);
-          sorted = i .sorted;
-          urgent = urgent-on i sh′ (other-calm i p s me′ its′ into (inl refl) (i .bytes s) only·first);
-          opens = λ q z. i .opens q (ap (λ k. k .mark) (sym (same-link s its′ refl q)) ∙ z);
-          marks = λ q. subst⁻¹ (λ k. k .mark ≤ 1) (same-link s its′ refl q) (i .marks q);
-          bytes = upd-all sh s its′ (λ q z. z .priority ≤ 255) (le-refl 255) (λ q n. i .bytes q);
-        })
+  row17-keeps e = (
+    h,
+    record {
+      stands =
+          upd-all private p me′ (λ q me. Stands l h q (me .stage) (sh′ q .locked)) (held-stands l h p 18 _ (lit≤ tt) tt e′)
+          (λ q n. subst⁻¹ (λ (k : ℕ). Stands l h q (private q .stage) k) (upd-all sh s its′ (λ q z. z .locked ≡ sh q .locked) refl (λ q n. refl) q) (i .stands q));
+      seeks = other-seeks i p s me′ its′ into (inl refl) (i .bytes s) only·first tt;
+      holder =
+          upd-all private p me′ (λ q me. q ≡ h → Holder q (me .stage) me (sh′ q) lock l)
+          (λ _. record { free = absurd; first = absurd; away = holder-at i p 17 e e′ .away; closing = absurd; next = absurd; handing = λ _. f })
+          (λ q n z. absurd (n (z ∙ sym e′)))
+          h refl;
+      nobody = nobody′ me′;
+      distinct = i .distinct;
+      chain = chain-map (λ q. sh q .link .pointer) (λ q. sh′ q .link .pointer) l (λ q _. ap (λ k. k .pointer) (same-link s its′ refl q)) (i .chain);
+      sorted = i .sorted;
+      urgent = urgent-on i sh′ (other-calm i p s me′ its′ into (inl refl) (i .bytes s) only·first);
+      opens = λ q z. i .opens q (ap (λ k. k .mark) (sym (same-link s its′ refl q)) ∙ z);
+      marks = λ q. subst⁻¹ (λ k. k .mark ≤ 1) (same-link s its′ refl q) (i .marks q);
+      bytes = upd-all sh s its′ (λ q z. z .priority ≤ 255) (le-refl 255) (λ q n. i .bytes q);
+    },
+  )
     where
       e′ : p ≡ h
       e′ = stands-at i p 17 e .holds tt
+
       f : (lock ≡ head l) × (private p .s ≡ head l) × (l ≢ [])
       f = holder-at i p 17 e e′ .handing tt
+
       s : ℕ
       s = private p .s
+
       into : In s l
       into = head-in i s (f .2) (sym (f .1))
+
       only·first : In s (behind l) → 255 ≡ sh s .priority
       only·first z = absurd (head-not-behind l (i .distinct) (subst (λ (k : ℕ). In k (behind l)) (f .1) z))
+
       me′ : Private
       me′ = goes 18 (private p)
+
       its′ : Shared
       its′ = withPriority 255 (sh s)
+
       sh′ : ℕ → Shared
       sh′ = upd sh s its′
 
   pub row18-keeps : private p .stage ≡ 18 → After o private sh p (private p .s) (row18 suc p (private p) (sh (private p .s)) lock)
   unfolding row18 stepping
-  row18-keeps e =
-      (s
-      , record {
-          stands =
-              upd-all private p me′ (λ q me. Stands l s q (me .stage) (sh′ q .locked)) (out-stands l s p 0 _ (lit≤ tt) tt away)
-              (λ q n. let z = i .stands q in
-                record {
-                  known = z .known;
-                  out = z .out;
-                  waits = λ t. (z .waits t .0, ⊎-elim (λ a. absurd (n (a .0 ∙ sym e′))) (λ a. freed q (a .1)) (z .waits t .1));
-                  holds = λ t. absurd (n (z .holds t ∙ sym e′)) });
-          seeks = other-seeks i p s me′ its′ into (inl refl) (le-refl _) (λ _. refl) tt;
-          holder = first-holder s _ _ _ lock l s·member (f .0 ∙ sym (f .1), f .2, sym (f .1));
-          nobody = nobody′ me′;
-          distinct = i .distinct;
-          chain = chain-map (λ q. sh q .link .pointer) (λ q. sh′ q .link .pointer) l (λ q _. ap (λ k. k .pointer) (same-link s its′ refl q)) (i .chain);
-          sorted = i .sorted;
-          urgent = urgent-on i sh′ (other-calm i p s me′ its′ into (inl refl) (le-refl _) (λ _. refl));
-          opens = λ q z. i .opens q (ap (λ k. k .mark) (sym (same-link s its′ refl q)) ∙ z);
-          marks = λ q. subst⁻¹ (λ k. k .mark ≤ 1) (same-link s its′ refl q) (i .marks q);
-          bytes = upd-all sh s its′ (λ q z. z .priority ≤ 255) (i .bytes s) (λ q n. i .bytes q);
-        })
+  row18-keeps e = (
+    s,
+    record {
+      stands =
+          upd-all private p me′ (λ q me. Stands l s q (me .stage) (sh′ q .locked)) (out-stands l s p 0 _ (lit≤ tt) tt away)
+          (λ q n. let z = i .stands q in
+          record {
+            known = z .known;
+            out = z .out;
+            waits = λ t. (z .waits t .0, ⊎-elim (λ a. absurd (n (a .0 ∙ sym e′))) (λ a. freed q (a .1)) (z .waits t .1));
+            holds = λ t. absurd (n (z .holds t ∙ sym e′));
+          });
+      seeks = other-seeks i p s me′ its′ into (inl refl) (le-refl _) (λ _. refl) tt;
+      holder = first-holder s _ _ _ lock l s·member (f .0 ∙ sym (f .1), f .2, sym (f .1));
+      nobody = nobody′ me′;
+      distinct = i .distinct;
+      chain = chain-map (λ q. sh q .link .pointer) (λ q. sh′ q .link .pointer) l (λ q _. ap (λ k. k .pointer) (same-link s its′ refl q)) (i .chain);
+      sorted = i .sorted;
+      urgent = urgent-on i sh′ (other-calm i p s me′ its′ into (inl refl) (le-refl _) (λ _. refl));
+      opens = λ q z. i .opens q (ap (λ k. k .mark) (sym (same-link s its′ refl q)) ∙ z);
+      marks = λ q. subst⁻¹ (λ k. k .mark ≤ 1) (same-link s its′ refl q) (i .marks q);
+      bytes = upd-all sh s its′ (λ q z. z .priority ≤ 255) (i .bytes s) (λ q n. i .bytes q);
+    },
+  )
     where
       e′ : p ≡ h
       e′ = stands-at i p 18 e .holds tt
+
       f : (lock ≡ head l) × (private p .s ≡ head l) × (l ≢ [])
       f = holder-at i p 18 e e′ .handing tt
+
       away : In p l → ⊥
       away = holder-at i p 18 e e′ .away tt
+
       s : ℕ
       s = private p .s
+
       into : In s l
       into = head-in i s (f .2) (sym (f .1))
+
       me′ : Private
       me′ = goes 0 (withOwn 0 (private p))
+
       its′ : Shared
       its′ = withLocked 0 (sh s)
+
       sh′ : ℕ → Shared
       sh′ = upd sh s its′
+
       s·member : T (among (upd private p me′ s .stage) members)
       s·member =
           subst⁻¹ (λ (me : Private). T (among (me .stage) members))
           (upd-other private p me′ s (λ z. away (subst (λ (k : ℕ). In k l) z into))) (member i s into)
+
       freed : (q : ℕ) → sh q .locked ≡ 1 → ((q ≡ s) × (sh′ q .locked ≡ 0)) ⊎ ((q ≢ s) × (sh′ q .locked ≡ 1))
       freed q z =
           ⊎-elim (λ a. inl (a, ap (λ (k : ℕ). sh′ k .locked) a ∙ ap (λ (k : Shared). k .locked) (upd-same sh s its′)))

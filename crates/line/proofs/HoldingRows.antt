@@ -3,7 +3,7 @@ use Prim.Native.Nat.{ℕ, suc, _≤_}
 use mathlib.Core.Path.{_≡_, refl, sym, _∙_, ap, subst, subst₂}
 use mathlib.Core.Bool.{Bool, true, false}
 use mathlib.Core.List.{List, []}
-use mathlib.Core.Logic.{_≢_, _⊎_, inl, inr, ⊎-elim}
+use mathlib.Core.Logic.{_≢_, inl, inr}
 use lib.Dec.{T, lit≤, eqb}
 use borrow.Author.Tests.{eqb-true, eqb-false}
 use native.Mathlib.Omega.{arith}
@@ -17,7 +17,7 @@ use Rattle.stage.specs.declared.Shared.{Shared}
 use Rattle.line.specs.History.{Course, stepping}
 use Rattle.line.specs.PlainLine.{Place}
 use Rattle.line.proofs.After.{Good, After}
-use Rattle.line.proofs.Facts.{stands-at, holder-at, seeks-not, head-in, empty}
+use Rattle.line.proofs.Facts.{stands-at, holder-at, seeks-not, head-in, empty, freed-first}
 use Rattle.line.proofs.Invariant.{Stands, Holder, Inv}
 use Rattle.line.proofs.Kept.{kept}
 use Rattle.line.proofs.Places.{In, head}
@@ -45,7 +45,7 @@ module _ (o : Course) {private : ℕ → Private} {sh : ℕ → Shared} {lock : 
       choose (After o private sh p p) (eqb (sh p .locked) 0)
       (λ free.
       let z = eqb-true (sh p .locked) 0 free in
-      let e′ : p ≡ h = ⊎-elim (λ a. a .0) (λ a. absurd (omega (arith, z, a .1))) (s .1) in (
+      let e′ = freed-first i p e z in (
         h,
         kept i p _ _ (inl refl) (λ _. (refl, refl)) lock (λ _. refl) some (i .opens p) (i .marks p) (i .bytes p)
             (held-stands l h p 13 _ (lit≤ tt) tt e′)

@@ -37,7 +37,7 @@ joining :
     → private p .stage ≡ 9
     → sh (private p .prev) .link ≡ private p .w
     → Inv g (upd private p (goes 11 (private p)))
-      (upd sh (private p .prev) (withLink (changed suc (sh (private p .prev) .link) p OPEN) (sh (private p .prev)))) lock (join (record { module· = p; priority = g p }) l) h
+    (upd sh (private p .prev) (withLink (changed suc (sh (private p .prev) .link) p OPEN) (sh (private p .prev)))) lock (join (record { module· = p; priority = g p }) l) h
 unfolding join changed
 joining g private sh lock [] h p i some e as·read = absurd (i .opens (private p .prev) (ap (λ (k : Link). k .mark) as·read ∙ seeks-at i p 9 e .knows tt .0 .0))
 joining g private sh lock (y ∷ l) h p i some e as·read =
@@ -46,23 +46,25 @@ joining g private sh lock (y ∷ l) h p i some e as·read =
           upd-all private p me′ (λ q me. Stands l′ h q (me .stage) (sh′ q .locked))
           (record { known = lit≤ tt; out = absurd; waits = λ _. (inr (stand-in x p l (inl refl)), inr (p·h, locked p ∙ s .locked tt)); holds = absurd })
           (λ q n. subst⁻¹ (λ (k : ℕ). Stands l′ h q (private q .stage) k) (locked q)
-            (let z = i .stands q in
-              record {
-                known = z .known;
-                out = λ t into. ⊎-elim n (z .out t) (from q into);
-                waits = λ t. (to q (z .waits t .0), z .waits t .1);
-                holds = z .holds }));
+          (let z = i .stands q in
+          record {
+            known = z .known;
+            out = λ t into. ⊎-elim n (z .out t) (from q into);
+            waits = λ t. (to q (z .waits t .0), z .waits t .1);
+            holds = z .holds;
+          }));
       seeks = other-seeks i p a me′ its′ into link (le-refl _) (λ _. refl) tt;
       holder =
           upd-all private p me′ (λ q me. q ≡ h → Holder q (me .stage) me (sh′ q) lock l′) (λ e′. absurd (p·h e′))
           (λ q n e′. let f = holder-at i q (private q .stage) refl e′ in
-            record {
-              free = λ t. absurd (cons-ne-nil y l (f .free t .0));
-              first = λ t. (f .first t .0, cons-ne-nil y (stand x l), f .first t .2);
-              away = λ t z. ⊎-elim n (f .away t) (from q z);
-              closing = λ t. (f .closing t .0, ap (λ (k : Shared). k .link .pointer) (upd-other sh a its′ q (apart q (f .away (included (15 ∷ 16 ∷ []) leavers tt (private q .stage) t)))) ∙ f .closing t .1);
-              next = f .next;
-              handing = λ t. (f .handing t .0, f .handing t .1, cons-ne-nil y (stand x l)) })
+          record {
+            free = λ t. absurd (cons-ne-nil y l (f .free t .0));
+            first = λ t. (f .first t .0, cons-ne-nil y (stand x l), f .first t .2);
+            away = λ t z. ⊎-elim n (f .away t) (from q z);
+            closing = λ t. (f .closing t .0, ap (λ (k : Shared). k .link .pointer) (upd-other sh a its′ q (apart q (f .away (included (15 ∷ 16 ∷ []) leavers tt (private q .stage) t)))) ∙ f .closing t .1);
+            next = f .next;
+            handing = λ t. (f .handing t .0, f .handing t .1, cons-ne-nil y (stand x l));
+          })
           h refl;
       nobody = ap (λ (me : Private). me .stage) (upd-other private p me′ 0 (λ e′. some (sym e′))) ∙ i .nobody;
       distinct = ((λ z. ⊎-elim (λ e′. new (inl (sym e′))) (i .distinct .0) (in-stand x (y .module·) l z)), distinct-stand x l (λ z. new (inr z)) (i .distinct .1));
@@ -85,36 +87,52 @@ joining g private sh lock (y ∷ l) h p i some e as·read =
   where
     me : Private
     me = private p
+
     me′ : Private
     me′ = goes 11 me
+
     a : ℕ
     a = me .prev
+
     its′ : Shared
     its′ = withLink (changed suc (sh a .link) p OPEN) (sh a)
+
     sh′ : ℕ → Shared
     sh′ = upd sh a its′
+
     x : Place
     x = record { module· = p; priority = g p }
+
     l′ : List Place
     l′ = y ∷ stand x l
+
     s : Seeks g sh p 9 me (sh p)
     s = seeks-at i p 9 e
+
     into : In a (y ∷ l)
     into = i .opens a (ap (λ (k : Link). k .mark) as·read ∙ s .knows tt .0 .0)
+
     new : In p (y ∷ l) → ⊥
     new = stands-at i p 9 e .out tt
+
     p·a : p ≢ a
     p·a e′ = new (subst⁻¹ (λ (k : ℕ). In k (y ∷ l)) e′ into)
+
     p·h : p ≢ h
     p·h e′ = cons-ne-nil y l (holder-at i p 9 e e′ .free tt .0)
+
     link : Onward (sh a .link) (its′ .link)
     link = inr (omega arith)
+
     locked : (q : ℕ) → sh′ q .locked ≡ sh q .locked
     locked = upd-all sh a its′ (λ q s. s .locked ≡ sh q .locked) refl (λ q n. refl)
+
     from : (q : ℕ) → In q l′ → (q ≡ p) ⊎ In q (y ∷ l)
     from q = ⊎-elim (λ e′. inr (inl e′)) (λ z. ⊎-elim inl (λ j. inr (inr j)) (in-stand x q l z))
+
     to : (q : ℕ) → In q (y ∷ l) → In q l′
     to q = ⊎-elim inl (λ z. inr (stand-in x q l (inr z)))
+
     apart : (q : ℕ) → (In q (y ∷ l) → ⊥) → q ≢ a
     apart q out e′ = out (subst⁻¹ (λ (k : ℕ). In k (y ∷ l)) e′ into)
 

@@ -14,3 +14,8 @@ pub mod Others
 pub mod Handing
 pub mod Taking
 pub mod Joining
+pub mod Beginning
+pub mod Steps
+pub mod Logs
+pub mod Ideal
+pub mod Holding

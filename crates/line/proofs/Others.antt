@@ -22,7 +22,6 @@ module _ {g : ℕ → ℕ} {private : ℕ → Private} {sh : ℕ → Shared} {lo
     (link : Onward (sh x .link) (its′ .link))
     (raised : sh x .priority ≤ its′ .priority)
     (kept : In x (behind l) → its′ .priority ≡ sh x .priority) where
-
   pub other-calm : Calm l sh (upd sh x its′)
   other-calm =
       record {
@@ -37,10 +36,10 @@ module _ {g : ℕ → ℕ} {private : ℕ → Private} {sh : ℕ → Shared} {lo
   other-seeks still q =
       upd-all private p me′ (λ q me. Seeks g sh′ q (me .stage) me (sh′ q)) (seeks-not g sh′ p (me′ .stage) me′ (sh′ p) still)
       (λ q n. seeks-on i sh′ other-calm q
-        (⊎-elim (λ e. inr (subst⁻¹ (λ (z : ℕ). In z l) e into))
-        (λ n′. let same = upd-other sh x its′ q n′ in
-          inl (ap (λ (s : Shared). s .priority) same, ap (λ (s : Shared). s .locked) same, ap (λ (s : Shared). s .link .pointer) same))
-        (equal q x)))
+      (⊎-elim (λ e. inr (subst⁻¹ (λ (z : ℕ). In z l) e into))
+      (λ n′. let same = upd-other sh x its′ q n′ in
+      inl (ap (λ (s : Shared). s .priority) same, ap (λ (s : Shared). s .locked) same, ap (λ (s : Shared). s .link .pointer) same))
+      (equal q x)))
       q
     where
       sh′ : ℕ → Shared

@@ -18,7 +18,7 @@ pub record Desk : Type 1 where
   pub shows : State → Table
 
 -- The machine as a desk: `bump` is how a link's count changes, `fits k` whether there is room for k modules.
-unfoldable pub machine : (ℕ → ℕ) → (ℕ → Bool) → Desk
+abbrev pub machine : (ℕ → ℕ) → (ℕ → Bool) → Desk
 machine bump fits =
     record { State = Table; says = λ c t. called bump fits c t .0; leaves = λ c t. called bump fits c t .1; shows = λ t. t }
 

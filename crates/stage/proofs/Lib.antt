@@ -1,2 +1,3 @@
 pub mod AtStage
+pub mod Refusing
 pub mod Update
