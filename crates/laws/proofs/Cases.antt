@@ -35,3 +35,8 @@ equal m n = go (eqb m n) refl
 pub both-hold : (a b : Bool) → (a && b) ≡ true → (a ≡ true) × (b ≡ true)
 both-hold true b e = (refl, e)
 both-hold false b e = absurd (let z : _≡_ {A = ℕ} 0 1 = cc in omega arith)
+
+-- f of a choice is the choice of f's
+pub cond-map : {A B : Type 0} (f : A → B) (b : Bool) (x y : A) → f (cond b x y) ≡ cond b (f x) (f y)
+cond-map f true x y = refl
+cond-map f false x y = refl

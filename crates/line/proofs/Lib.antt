@@ -19,3 +19,7 @@ pub mod Steps
 pub mod Logs
 pub mod Ideal
 pub mod Holding
+pub mod Wrap
+pub mod WrapCalls
+pub mod Counted
+pub mod Modular

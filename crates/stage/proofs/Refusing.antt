@@ -1,11 +1,11 @@
 -- A call is refused, or accepted with none of its tests holding. Assumes nothing.
 use Prim.Native.Nat.{ℕ, _≤_}
-use mathlib.Core.Path.{_≡_}
-use mathlib.Core.Bool.{Bool, true, false, not}
+use mathlib.Core.Path.{_≡_, refl, _∙_, ap}
+use mathlib.Core.Bool.{Bool, false, cond, not}
 use mathlib.Core.List.{List, [], _∷_}
 use borrow.Author.Tests.{leb-true, not-false}
 use lib.Dec.{leb}
-use Rattle.laws.proofs.Cases.{choose, both-hold}
+use Rattle.laws.proofs.Cases.{choose, both-hold, cond-map}
 use Rattle.stage.specs.Calls.{refusing, within}
 
 abbrev pub Unrefused : List (Bool × ℕ) → Type 0
@@ -25,3 +25,12 @@ pub is-within : (a b x : ℕ) → not (within a b x) ≡ false → (a ≤ x) × 
 is-within a b x e =
     let f = both-hold (leb a x) (leb x b) (not-false (within a b x) e) in
     (leb-true a x (f .0), leb-true x b (f .1))
+
+-- f of what a call comes to
+pub refusing-map : {A B : Type 0} (f : A → B) (tests : List (Bool × ℕ)) (refused : ℕ → A) (accepted : A)
+    → f (refusing tests refused accepted) ≡ refusing tests (λ k. f (refused k)) (f accepted)
+unfolding refusing
+refusing-map f [] refused accepted = refl
+refusing-map f (e ∷ others) refused accepted =
+    cond-map f (e .0) (refused (e .1)) (refusing others refused accepted)
+    ∙ ap (λ x. cond (e .0) (f (refused (e .1))) x) (refusing-map f others refused accepted)

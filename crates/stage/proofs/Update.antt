@@ -40,3 +40,10 @@ upd-both f f′ p v v′ P here there q =
     (λ e. subst⁻¹ (λ (z : ℕ). P z (upd f p v z) (upd f′ p v′ z)) e (rw (upd-same f p v, upd-same f′ p v′) here))
     (λ n. rw (upd-other f p v q n, upd-other f′ p v′ q n) (there q n))
     (equal q p)
+
+-- f of every value, after a change and before it
+pub upd-map : {A B : Type 0} (f : A → B) (g : ℕ → A) (p : ℕ) (v : A) → _≡_ {A = ℕ → B} (λ q. f (upd g p v q)) (upd (λ q. f (g q)) p (f v))
+unfolding upd
+upd-map {B = B} f g p v =
+    fun-ext (λ q. choose (λ w. f w ≡ upd (λ q′. f (g q′)) p (f v) q) (eqb q p)
+    (λ e. ap (λ b. cond b (f v) (f (g q))) (sym e)) (λ e. ap (λ b. cond b (f v) (f (g q))) (sym e)))

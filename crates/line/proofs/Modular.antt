@@ -1,0 +1,172 @@
+-- Demand 3 of the machine that counts modulo m: while every swap comes fewer than m changes after its reading, it is the machine whose counts never wrap,
+-- with its counts reduced. Assumes nothing.
+use Prim.Native.Nat.{ℕ, suc, _+_, _%_, _≤_, _<_}
+use mathlib.Core.Path.{_≡_, refl, sym, _∙_, ap, subst, subst⁻¹, subst₂, fun-ext}
+use mathlib.Core.Bool.{Bool, true, false, cond}
+use mathlib.Core.List.{List, [], _∷_}
+use mathlib.Core.Logic.{_⊎_, inl, inr, ⊎-elim}
+use lib.Dec.{T}
+use native.Mathlib.Omega.{arith}
+use native.Mathlib.Numerals.{add-one}
+use Rattle.laws.proofs.Cases.{test}
+use Rattle.laws.proofs.Only.{among}
+use Rattle.link.proofs.Counting.{told-apart}
+use Rattle.link.proofs.Same.{same-true, same-self, same-not}
+use Rattle.link.specs.Count.{next}
+use Rattle.link.specs.Operations.{same}
+use Rattle.link.specs.declared.Link.{Link}
+use Rattle.stage.proofs.Refusing.{Unrefused, refused-or}
+use Rattle.stage.specs.Calls.{Call, setUp, beginAcquisition, beginRelease, step, takeLog, refusals, after, called}
+use Rattle.stage.specs.Table.{Table, idle, freshTable}
+use Rattle.stage.specs.declared.Private.{Private}
+use Rattle.stage.specs.declared.Reply.{Reply}
+use Rattle.stage.specs.declared.Shared.{Shared}
+use Rattle.line.specs.Demand3.{changed, reads, changesSince, InTime, Premise, Leads, leftOff, Holds, Demand3}
+use Rattle.line.specs.History as History
+use Rattle.line.specs.History.{Course, heard, machine, state}
+use Rattle.line.proofs.Counted.{OneOn, readers, Still, Ongoing, links-on, still, Counts, counts-on}
+use Rattle.line.proofs.Facts.{seeks-at}
+use Rattle.line.proofs.Holding.{kept-holds}
+use Rattle.line.proofs.Ideal.{Kept, ideal-kept}
+use Rattle.line.proofs.Invariant.{Read}
+use Rattle.line.proofs.Wrap.{wrapLink}
+use Rattle.line.proofs.WrapCalls.{wrap, Fair, fresh-wraps, call-wraps}
+
+module _ (m : ℕ) (two : 1 < m) where
+  -- a reduced link tells one change from none
+  one-told : (l l′ : Link) → OneOn l l′ → l′ .count ≡ l .count + cond (same (wrapLink m l) (wrapLink m l′)) 0 1
+  one-told l l′ (inl e) =
+      ap (λ (k : Link). k .count) e ∙ omega arith
+      ∙ ap (λ (b : Bool). l .count + cond b 0 1) (sym (ap (λ (k : Link). same (wrapLink m l) (wrapLink m k)) e ∙ same-self (wrapLink m l)))
+  one-told l l′ (inr e) =
+      e ∙ sym (add-one (l .count))
+      ∙ ap (λ (b : Bool). l .count + cond b 0 1)
+      (sym (same-not (wrapLink m l) (wrapLink m l′)
+      (λ z. let one = told-apart m (l .count) 1 two (ap (λ (k : ℕ). k % m) (add-one (l .count) ∙ sym e) ∙ sym z) in omega arith)))
+
+  -- a link that was read fewer than m changes ago compares reduced as it compares
+  alike : (w l : Link) (d : ℕ) → Read w l → l .count ≡ w .count + d → d < m → same (wrapLink m l) (wrapLink m w) ≡ same l w
+  alike w l d read count few =
+      ⊎-elim (λ e. equal·links (same-true l w e))
+      (λ no·l. ⊎-elim
+      (λ e. let z = told-apart m (w .count) d few (ap (λ (k : ℕ). k % m) (sym count) ∙ ap (λ (k : Link). k .count) (same-true (wrapLink m l) (wrapLink m w) e)) in
+      equal·links (read .2 (omega arith)))
+      (λ no·w. no·w ∙ sym no·l)
+      (test (same (wrapLink m l) (wrapLink m w))))
+      (test (same l w))
+    where
+      equal·links : l ≡ w → same (wrapLink m l) (wrapLink m w) ≡ same l w
+      equal·links e =
+          ap (λ (k : Link). same (wrapLink m k) (wrapLink m w)) e ∙ same-self (wrapLink m w)
+          ∙ sym (ap (λ (k : Link). same k w) e ∙ same-self w)
+
+  reads-wraps : (q : ℕ) (c : Call) (t : Table) → reads q c (wrap m t) ≡ reads q c t
+  unfolding reads
+  reads-wraps q (setUp k) t = refl
+  reads-wraps q (beginAcquisition p r) t = refl
+  reads-wraps q (beginRelease p) t = refl
+  reads-wraps q (step p) t = refl
+  reads-wraps q (takeLog room) t = refl
+
+  leads-wraps : (t : Table) (q : ℕ) (l : List ℕ) → Leads t q l → Leads (wrap m t) q l
+  unfolding Leads
+  leads-wraps t q [] e = e
+  leads-wraps t q (x ∷ l) e = (e .0, e .1, leads-wraps t (t .shared x .link .pointer) l (e .2))
+
+  left-off-wraps : (t : Table) (l : List ℕ) → leftOff (wrap m t) l ≡ leftOff t l
+  unfolding leftOff
+  left-off-wraps t [] = refl
+  left-off-wraps t (x ∷ l) = refl
+
+  -- what demand 3 says, it says without the counts
+  holds-wraps : {t : Table} {o : Course} → Holds t o → Holds (wrap m t) o
+  holds-wraps {t} {o} h =
+      record {
+        found = (h .found .0, leads-wraps t (t .lock) (h .found .0) (h .found .1), left-off-wraps t (h .found .0) ∙ h .found .2);
+        alone = h .alone;
+        first = h .first;
+        log = h .log;
+      }
+
+  fresh-counts : (k : ℕ) (since : ℕ → ℕ → ℕ) → Counts (freshTable k) since
+  unfolding freshTable idle
+  fresh-counts k since q z = absurd z
+
+  module _ (fits : ℕ → Bool) (n : ℕ) where
+    abbrev real : List Call → Table
+    real = state (machine (next m) fits) (freshTable n)
+
+    abbrev ideal : List Call → Table
+    ideal = state (machine suc fits) (freshTable n)
+
+    abbrev since : List Call → ℕ → ℕ → ℕ
+    since cs q x = changesSince (machine (next m) fits) (freshTable n) q x cs
+
+    -- the real machine is the ideal one, reduced, and has counted right
+    record Follows (cs : List Call) : Type 0 where
+      table : real cs ≡ wrap m (ideal cs)
+      course : History.course (machine (next m) fits) (freshTable n) cs ≡ History.course (machine suc fits) (freshTable n) cs
+      counts : Counts (ideal cs) (since cs)
+
+    known : (cs : List Call) (p : ℕ) → ideal cs .private p .stage ≤ 18
+    known cs p = ideal-kept fits n cs .inv .stands p .known
+
+    fair : (c : Call) (cs : List Call) → Follows cs → InTime (machine (next m) fits) (freshTable n) m c cs → Fair m c (ideal cs)
+    unfolding InTime
+    fair (setUp k) cs f z = tt
+    fair (beginAcquisition p r) cs f z = tt
+    fair (beginRelease p) cs f z = tt
+    fair (step p) cs f z = λ e.
+        let t = ideal cs in
+        let few = subst (λ (t′ : Table). t′ .private p .stage ≡ 9 → since cs p (t′ .private p .prev) < m) (f .table) z e in
+        alike (t .private p .w) (t .shared (t .private p .prev) .link) _ (seeks-at (ideal-kept fits n cs .inv) p 9 e .knows tt .0)
+        (f .counts p (subst⁻¹ (λ (k : ℕ). T (among k readers)) e tt)) few
+    fair (takeLog room) cs f z = tt
+
+    -- the changes since a reading, one call on, as the reduced tables tell them
+    abbrev told : Call → Table → (ℕ → ℕ → ℕ) → Table → ℕ → ℕ → ℕ
+    told c t since t′ q x = cond (reads q c t) 0 (since q x + cond (same (wrapLink m (t .shared x .link)) (wrapLink m (t′ .shared x .link))) 0 1)
+
+    module _ (t : Table) (since : ℕ → ℕ → ℕ) (below : (p : ℕ) → t .private p .stage ≤ 18) (counts : Counts t since) where
+      ongoing : (c : Call) → Ongoing c → Counts (after suc c t) (told c t since (after suc c t))
+      ongoing c on =
+          counts-on c t (after suc c t) since _ (λ x. one-told (t .shared x .link) (after suc c t .shared x .link) (links-on t below c on x)) (still t below c on) counts
+
+      accepted : (c : Call) → Counts (after suc c t) (told c t since (after suc c t))
+      unfolding after
+      accepted (setUp k) = fresh-counts k (told (setUp k) t since (freshTable k))
+      accepted (beginAcquisition p r) = ongoing (beginAcquisition p r) tt
+      accepted (beginRelease p) = ongoing (beginRelease p) tt
+      accepted (step p) = ongoing (step p) tt
+      accepted (takeLog room) = ongoing (takeLog room) tt
+
+      counting : (c : Call) → Counts (called suc fits c t .1) (told c t since (called suc fits c t .1))
+      unfolding called
+      counting c =
+          refused-or (λ (r : Reply × Table). Counts (r .1) (told c t since (r .1))) (refusals suc fits c t) _ _
+          (λ k. counts-on c t t since _ (λ x. one-told (t .shared x .link) (t .shared x .link) (inl refl)) (λ q z. (refl, inr (z, refl))) counts)
+          (λ _. accepted c)
+
+    follows : (cs : List Call) → Premise (machine (next m) fits) (freshTable n) m cs → Follows cs
+    unfolding Premise state History.course changesSince changed
+    follows [] z = record { table = fresh-wraps m n; course = refl; counts = fresh-counts n (since []) }
+    follows (c ∷ cs) z =
+        let f = follows cs (z .1) in
+        let t = ideal cs in
+        let e : called (next m) fits c (real cs) ≡ (called suc fits c t .0, wrap m (called suc fits c t .1)) =
+        ap (called (next m) fits c) (f .table) ∙ call-wraps m fits t (known cs) c (fair c cs f (z .0)) in
+        record {
+          table = ap (λ (r : Reply × Table). r .1) e;
+          course = λ i. heard c (e i .0) (f .table i .log) (f .course i);
+          counts =
+              subst⁻¹ (λ (s : ℕ → ℕ → ℕ). Counts (called suc fits c t .1) s)
+              (fun-ext (λ q. fun-ext (λ x.
+              ap (λ (b : Bool). cond b 0 (since cs q x + changed (real cs) (real (c ∷ cs)) x)) (ap (reads q c) (f .table) ∙ reads-wraps q c t)
+              ∙ (λ i. cond (reads q c t) 0 (since cs q x + changed (f .table i) (e i .1) x)))))
+              (counting t (since cs) (known cs) (f .counts) c);
+        }
+
+    pub modular : Demand3 (machine (next m) fits) (freshTable n) m
+    modular cs z =
+        let f = follows cs z in
+        subst₂ Holds (sym (f .table)) (sym (f .course)) (holds-wraps (kept-holds (ideal-kept fits n cs)))
