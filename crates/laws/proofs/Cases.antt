@@ -1,6 +1,6 @@
 -- Cases on a test, with what the test then says. Assumes nothing.
 use Prim.Native.Nat.{ℕ, _≤_, _<_}
-use mathlib.Core.Path.{_≡_, refl}
+use mathlib.Core.Path.{_≡_, refl, _∙_, ap}
 use mathlib.Core.Bool.{Bool, true, false, cond, _&&_}
 use mathlib.Core.Logic.{_⊎_, inl, inr}
 use lib.Dec.{eqb, ltb}
@@ -40,3 +40,6 @@ both-hold false b e = absurd (let z : _≡_ {A = ℕ} 0 1 = cc in omega arith)
 pub cond-map : {A B : Type 0} (f : A → B) (b : Bool) (x y : A) → f (cond b x y) ≡ cond b (f x) (f y)
 cond-map f true x y = refl
 cond-map f false x y = refl
+
+pub both-are : {a b : Bool} → a ≡ true → b ≡ true → (a && b) ≡ true
+both-are {b = b} e f = ap (λ (x : Bool). x && b) e ∙ f

@@ -22,7 +22,7 @@ use Rattle.stage.specs.declared.Private.{Private}
 use Rattle.stage.specs.declared.Shared.{Shared}
 use Rattle.stage.specs.declared.Stepped.{Stepped}
 use Rattle.line.specs.Demand3.{reads}
-use Rattle.line.proofs.ByStage.{by-stage}
+use Rattle.stage.proofs.ByStage.{by-stage}
 
 -- a link is as it was, or one change on
 abbrev pub OneOn : Link → Link → Type 0

@@ -9,7 +9,7 @@ use Rattle.laws.proofs.Only.{among, disjoint, included, either}
 use Rattle.stage.specs.declared.Private.{Private}
 use Rattle.stage.specs.declared.Shared.{Shared}
 use Rattle.line.specs.PlainLine.{Place}
-use Rattle.line.proofs.ByStage.{by-stage}
+use Rattle.stage.proofs.ByStage.{by-stage}
 use Rattle.line.proofs.Invariant.{Stands, Seeks, Holder, Inv, outs, seekers, holders, leavers, members, settled}
 use Rattle.line.proofs.Places.{In, head}
 

@@ -1,5 +1,4 @@
 pub mod Places
-pub mod ByStage
 pub mod Invariant
 pub mod Facts
 pub mod Tables

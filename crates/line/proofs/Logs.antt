@@ -19,7 +19,7 @@ use Rattle.stage.specs.declared.Shared.{Shared}
 use Rattle.stage.specs.declared.Stepped.{Stepped}
 use Rattle.line.specs.History.{Course, stepping, entering}
 use Rattle.line.specs.PlainLine.{Place, join, leave, firstOf}
-use Rattle.line.proofs.ByStage.{by-stage}
+use Rattle.stage.proofs.ByStage.{by-stage}
 use Rattle.line.proofs.Facts.{stands-at, holder-at, freed-first}
 use Rattle.line.proofs.Invariant.{Stands, Inv, holders}
 use Rattle.line.proofs.Places.{In, Distinct, head}

@@ -8,7 +8,7 @@ use Rattle.stage.specs.declared.Private.{Private}
 use Rattle.stage.specs.declared.Shared.{Shared}
 use Rattle.line.specs.History.{Course, stepping}
 use Rattle.line.proofs.After.{After}
-use Rattle.line.proofs.ByStage.{by-stage}
+use Rattle.stage.proofs.ByStage.{by-stage}
 use Rattle.line.proofs.Handing.{row17-keeps, row18-keeps}
 use Rattle.line.proofs.HoldingRows.{row3-keeps, row11-keeps, row12-keeps, row15-keeps, row16-keeps}
 use Rattle.line.proofs.Invariant.{Inv}

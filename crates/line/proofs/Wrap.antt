@@ -17,7 +17,7 @@ use Rattle.stage.specs.declared.Event.the-variants as event
 use Rattle.stage.specs.declared.Private.{Private}
 use Rattle.stage.specs.declared.Shared.{Shared}
 use Rattle.stage.specs.declared.Stepped.{Stepped}
-use Rattle.line.proofs.ByStage.{by-stage}
+use Rattle.stage.proofs.ByStage.{by-stage}
 
 module _ (m : ℕ) where
   abbrev pub wrapLink : Link → Link

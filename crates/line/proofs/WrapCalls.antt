@@ -19,7 +19,7 @@ use Rattle.stage.specs.declared.Reply.{Reply}
 use Rattle.stage.specs.declared.Reply.the-variants.{Refused, Answered}
 use Rattle.stage.specs.declared.Shared.{Shared}
 use Rattle.stage.specs.declared.Stepped.{Stepped}
-use Rattle.line.proofs.ByStage.{by-stage}
+use Rattle.stage.proofs.ByStage.{by-stage}
 use Rattle.line.proofs.Wrap.{wrapPrivate, wrapShared, wrapStepped, Alike, row-wraps}
 
 module _ (m : ℕ) where

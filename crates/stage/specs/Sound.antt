@@ -1,12 +1,13 @@
 -- Which tables are sound. Document 01, "The image", the sentence "An image is sound when". Its rules on the bytes of an image (that the buffer
 -- holds it, edition, zeros and distance) are the image's.
 use Prim.Native.Nat.{ℕ, zero, suc}
+use mathlib.Core.Path.{_≡_}
 use mathlib.Core.Bool.{Bool, true, false, cond, _&&_}
 use mathlib.Core.List.{List, [], _∷_}
 use lib.Dec.{eqb, leb}
 use lib.ListN.{length}
 use Rattle.link.specs.declared.Link.{Link}
-use Rattle.stage.specs.Calls.{within, capacity}
+use Rattle.stage.specs.Calls.{Call, within, capacity, called}
 use Rattle.stage.specs.Table.{Table}
 use Rattle.stage.specs.declared.Private.{Private}
 use Rattle.stage.specs.declared.Shared.{Shared}
@@ -67,3 +68,7 @@ soundTable t =
     && leb (t .lock) (t .n)
     && every (t .n) (λ p. soundPrivate (t .n) (t .private p))
     && every (t .n) (λ p. soundShared (t .n) (t .shared p))
+
+-- What is proved of it: every call, refused or accepted, with whatever numbers, keeps a sound table sound.
+abbrev pub KeepsSound : Type 0
+KeepsSound = (bump : ℕ → ℕ) (fits : ℕ → Bool) (c : Call) (t : Table) → soundTable t ≡ true → soundTable (called bump fits c t .1) ≡ true
