@@ -44,7 +44,7 @@ leaves-none t (x ∷ l) m =
     (λ e. absurd (disjoint members (15 ∷ 16 ∷ []) tt k (m (x .module·) (inl refl)) (two-of-one (eqb k 15) (eqb k 16) e)))
     (λ e. refl)
 
-module _ {o : Course} {t : Table} (kept : Kept o t) where
+module _ {o : Course} {taken : List ℕ} {t : Table} (kept : Kept o taken t) where
   abbrev i : Inv (o .given) (t .private) (t .shared) (t .lock) (o .line) (kept .h)
   i = kept .inv
 
@@ -89,16 +89,16 @@ module _ {o : Course} {t : Table} (kept : Kept o t) where
       go [] some e = absurd (some refl)
       go (x ∷ l) some e = (modules l, ap (λ (q : ℕ). q ∷ modules l) e)
 
-  log : Names (o .taken ++ t .log) (o .firsts)
+  log : Names (taken ++ t .log) (o .firsts)
   log = go (o .line) (kept .logs)
     where
-      go : (l : List Place) → o .firsts ≡ (o .taken ++ t .log) ++ pending (t .private) l → Names (o .taken ++ t .log) (o .firsts)
-      go [] e = inl (sym (e ∙ append-nil (o .taken ++ t .log)))
+      go : (l : List Place) → o .firsts ≡ (taken ++ t .log) ++ pending (t .private) l → Names (taken ++ t .log) (o .firsts)
+      go [] e = inl (sym (e ∙ append-nil (taken ++ t .log)))
       go (x ∷ l) e =
           ⊎-elim
-          (λ b. inl (sym (e ∙ ap (λ (z : Bool). (o .taken ++ t .log) ++ cond z [] (x .module· ∷ [])) b ∙ append-nil (o .taken ++ t .log))))
-          (λ b. inr (x .module·, sym (e ∙ ap (λ (z : Bool). (o .taken ++ t .log) ++ cond z [] (x .module· ∷ [])) b)))
+          (λ b. inl (sym (e ∙ ap (λ (z : Bool). (taken ++ t .log) ++ cond z [] (x .module· ∷ [])) b ∙ append-nil (taken ++ t .log))))
+          (λ b. inr (x .module·, sym (e ∙ ap (λ (z : Bool). (taken ++ t .log) ++ cond z [] (x .module· ∷ [])) b)))
           (test (among (t .private (x .module·) .stage) insides))
 
-  pub kept-holds : Holds t o
+  pub kept-holds : Holds t o taken
   kept-holds = record { found = found; alone = λ p q a b. inside-holds p a ∙ sym (inside-holds q b); first = first; log = log }

@@ -16,8 +16,9 @@ use Rattle.stage.specs.declared.Event.{Event}
 use Rattle.stage.specs.declared.Event.the-variants.{Done, Waiting, Admitted, Joined, Left, Finished, Taken}
 use Rattle.stage.specs.declared.Private.{Private}
 use Rattle.stage.specs.declared.Reply.{Reply}
+use Rattle.stage.specs.declared.Reply.the-variants.{Refused, Answered}
 use Rattle.stage.specs.declared.Shared.{Shared}
-use Rattle.line.specs.History.{Course, start, stepping, accepted, heard, machine, state, course}
+use Rattle.line.specs.History.{Course, start, stepping, accepted, heard, course, takes, machine, state, transcript, taken}
 use Rattle.line.specs.PlainLine.{Place}
 use Rattle.line.proofs.Beginning.{fresh-good, begin-keeps}
 use Rattle.line.proofs.HoldingRows.{release-keeps}
@@ -25,13 +26,13 @@ use Rattle.line.proofs.Invariant.{Inv}
 use Rattle.line.proofs.Logs.{Logs, pending, insides, quiet, step-logs}
 use Rattle.line.proofs.Steps.{step-keeps}
 
--- the invariant, of a course and a table
-pub record Kept (o : Course) (t : Table) : Type 0 where
+-- the invariant, of a course, what was taken of the log, and a table
+pub record Kept (o : Course) (taken : List ℕ) (t : Table) : Type 0 where
   pub h : ℕ
   pub inv : Inv (o .given) (t .private) (t .shared) (t .lock) (o .line) h
-  pub logs : Logs o (t .private) (t .log)
+  pub logs : Logs o taken (t .private) (t .log)
 
-pub fresh-kept : (n : ℕ) → Kept start (freshTable n)
+pub fresh-kept : (n : ℕ) → Kept start [] (freshTable n)
 unfolding start freshTable
 fresh-kept n = record { h = 0; inv = fresh-good; logs = refl }
 
@@ -49,51 +50,59 @@ as-given : {g g′ : ℕ → ℕ} {private : ℕ → Private} {sh : ℕ → Shar
 as-given {private = private} {sh = sh} {lock = lock} {l = l} {h = h} e i = subst⁻¹ (λ (k : ℕ → ℕ). Inv k private sh lock l h) e i
 
 -- the stage of a module stays inside, or stays outside, and nothing else is heard
-relog : (o : Course) (t : Table) (p k : ℕ) (me′ : Private) → t .private p .stage ≡ k → among (me′ .stage) insides ≡ among k insides
-    → Logs o (t .private) (t .log) → Logs o (upd (t .private) p me′) (t .log)
-relog o t p k me′ e same logs =
-    logs ∙ ap (λ (l : List ℕ). (o .taken ++ t .log) ++ l) (sym (quiet (t .private) p me′ (same ∙ sym (ap (λ (j : ℕ). among j insides) e)) (o .line)))
+relog : (o : Course) (taken : List ℕ) (t : Table) (p k : ℕ) (me′ : Private) → t .private p .stage ≡ k → among (me′ .stage) insides ≡ among k insides
+    → Logs o taken (t .private) (t .log) → Logs o taken (upd (t .private) p me′) (t .log)
+relog o taken t p k me′ e same logs =
+    logs ∙ ap (λ (l : List ℕ). (taken ++ t .log) ++ l) (sym (quiet (t .private) p me′ (same ∙ sym (ap (λ (j : ℕ). among j insides) e)) (o .line)))
 
 module _ (fits : ℕ → Bool) where
-  accepted-keeps : (c : Call) (o : Course) (t : Table) → Kept o t → Unrefused (refusals suc fits c t) → Kept (accepted c (answered suc c t .event) (t .log) o) (after suc c t)
-  unfolding refusals answered after accepted begunAcquisition begunRelease stepOf afterStep logTaken
-  accepted-keeps (setUp k) o t kept u = fresh-kept k
-  accepted-keeps (beginAcquisition p r) o t kept u =
+  accepted-keeps : (c : Call) (o : Course) (l : List ℕ) (t : Table) → Kept o l t → Unrefused (refusals suc fits c t)
+      → Kept (accepted c (answered suc c t .event) o) (takes c (Answered (answered suc c t)) (t .log) l) (after suc c t)
+  unfolding refusals answered after accepted takes begunAcquisition begunRelease stepOf afterStep logTaken
+  accepted-keeps (setUp k) o l t kept u = fresh-kept k
+  accepted-keeps (beginAcquisition p r) o l t kept u =
       let known = is-within 1 (t .n) p (u .0) in
       let range = is-within 1 254 r (u .1 .0) in
       let e = eqb-true (t .private p .stage) 0 (not-false (eqb (t .private p .stage) 0) (u .1 .1 .0)) in
       record {
         h = kept .h;
         inv = begin-keeps (kept .inv) p r (omega arith) (omega arith) e;
-        logs = relog o t p 0 (goes 1 (withOwn r (t .private p))) e refl (kept .logs);
+        logs = relog o l t p 0 (goes 1 (withOwn r (t .private p))) e refl (kept .logs);
       }
-  accepted-keeps (beginRelease p) o t kept u =
+  accepted-keeps (beginRelease p) o l t kept u =
       let known = is-within 1 (t .n) p (u .0) in
       let e = eqb-true (t .private p .stage) 13 (not-false (eqb (t .private p .stage) 13) (u .1 .0)) in
       let z = release-keeps o (kept .inv) p (omega arith) e in
-      record { h = z .0; inv = z .1; logs = relog o t p 13 (goes 14 (t .private p)) e refl (kept .logs) }
-  accepted-keeps (step p) o t kept u =
+      record { h = z .0; inv = z .1; logs = relog o l t p 13 (goes 14 (t .private p)) e refl (kept .logs) }
+  accepted-keeps (step p) o l t kept u =
       let known = is-within 1 (t .n) p (u .0) in
       let z = step-keeps o (kept .inv) p (omega arith) in
-      record {
-        h = z .0;
-        inv = as-given (stepping-given p _ o) (z .1);
-        logs = step-logs o (kept .inv) (t .log) (kept .logs) p;
-      }
-  accepted-keeps (takeLog room) o t kept u =
+      record { h = z .0; inv = as-given (stepping-given p _ o) (z .1); logs = step-logs o (kept .inv) l (t .log) (kept .logs) p }
+  accepted-keeps (takeLog room) o l t kept u =
       record {
         h = kept .h;
         inv = kept .inv;
-        logs = kept .logs ∙ ap (λ (l : List ℕ). l ++ pending (t .private) (o .line)) (sym (append-nil (o .taken ++ t .log)));
+        logs = kept .logs ∙ ap (λ (z : List ℕ). z ++ pending (t .private) (o .line)) (sym (append-nil (l ++ t .log)));
       }
 
-  call-keeps : (c : Call) (o : Course) (t : Table) → Kept o t → Kept (heard c (called suc fits c t .0) (t .log) o) (called suc fits c t .1)
+  refused-taken : (c : Call) (k : ℕ) (held l : List ℕ) → takes c (Refused k) held l ≡ l
+  unfolding takes
+  refused-taken (setUp j) k held l = refl
+  refused-taken (beginAcquisition p r) k held l = refl
+  refused-taken (beginRelease p) k held l = refl
+  refused-taken (step p) k held l = refl
+  refused-taken (takeLog room) k held l = refl
+
+  call-keeps : (c : Call) (o : Course) (l : List ℕ) (t : Table) → Kept o l t
+      → Kept (heard c (called suc fits c t .0) o) (takes c (called suc fits c t .0) (t .log) l) (called suc fits c t .1)
   unfolding called heard
-  call-keeps c o t kept =
-      refused-or (λ (r : Reply × Table). Kept (heard c (r .0) (t .log) o) (r .1)) (refusals suc fits c t) _ _ (λ k. kept) (accepted-keeps c o t kept)
+  call-keeps c o l t kept =
+      refused-or (λ (r : Reply × Table). Kept (heard c (r .0) o) (takes c (r .0) (t .log) l) (r .1)) (refusals suc fits c t) _ _
+      (λ k. subst⁻¹ (λ (z : List ℕ). Kept o z t) (refused-taken c k (t .log) l) kept) (accepted-keeps c o l t kept)
 
   -- the ideal machine, from a fresh table of n modules
-  pub ideal-kept : (n : ℕ) (cs : List Call) → Kept (course (machine suc fits) (freshTable n) cs) (state (machine suc fits) (freshTable n) cs)
-  unfolding course state
+  pub ideal-kept : (n : ℕ) (cs : List Call)
+      → Kept (course (transcript (machine suc fits) (freshTable n) cs)) (taken (machine suc fits) (freshTable n) cs) (state (machine suc fits) (freshTable n) cs)
+  unfolding course transcript taken state
   ideal-kept n [] = fresh-kept n
-  ideal-kept n (c ∷ cs) = call-keeps c _ _ (ideal-kept n cs)
+  ideal-kept n (c ∷ cs) = call-keeps c _ _ _ (ideal-kept n cs)

@@ -1,7 +1,7 @@
 -- Demand 3 of the machine that counts modulo m: while every swap comes fewer than m changes after its reading, it is the machine whose counts never wrap,
 -- with its counts reduced. Assumes nothing.
 use Prim.Native.Nat.{ℕ, suc, _+_, _%_, _≤_, _<_}
-use mathlib.Core.Path.{_≡_, refl, sym, _∙_, ap, subst, subst⁻¹, subst₂, fun-ext}
+use mathlib.Core.Path.{_≡_, refl, sym, _∙_, ap, subst, subst⁻¹, subst₃, fun-ext}
 use mathlib.Core.Bool.{Bool, true, false, cond}
 use mathlib.Core.List.{List, [], _∷_}
 use mathlib.Core.Logic.{_⊎_, inl, inr, ⊎-elim}
@@ -23,7 +23,7 @@ use Rattle.stage.specs.declared.Reply.{Reply}
 use Rattle.stage.specs.declared.Shared.{Shared}
 use Rattle.line.specs.Demand3.{changed, reads, changesSince, InTime, Premise, Leads, leftOff, Holds, Demand3}
 use Rattle.line.specs.History as History
-use Rattle.line.specs.History.{Course, heard, machine, state}
+use Rattle.line.specs.History.{Course, takes, machine, state, transcript}
 use Rattle.line.proofs.Counted.{OneOn, readers, Still, Ongoing, links-on, still, Counts, counts-on}
 use Rattle.line.proofs.Facts.{seeks-at}
 use Rattle.line.proofs.Holding.{kept-holds}
@@ -79,8 +79,8 @@ module _ (m : ℕ) (two : 1 < m) where
   left-off-wraps t (x ∷ l) = refl
 
   -- what demand 3 says, it says without the counts
-  holds-wraps : {t : Table} {o : Course} → Holds t o → Holds (wrap m t) o
-  holds-wraps {t} {o} h =
+  holds-wraps : {t : Table} {o : Course} {l : List ℕ} → Holds t o l → Holds (wrap m t) o l
+  holds-wraps {t} h =
       record {
         found = (h .found .0, leads-wraps t (t .lock) (h .found .0) (h .found .1), left-off-wraps t (h .found .0) ∙ h .found .2);
         alone = h .alone;
@@ -102,11 +102,12 @@ module _ (m : ℕ) (two : 1 < m) where
     abbrev since : List Call → ℕ → ℕ → ℕ
     since cs q x = changesSince (machine (next m) fits) (freshTable n) q x cs
 
-    -- the real machine is the ideal one, reduced, and has counted right
-    record Follows (cs : List Call) : Type 0 where
-      table : real cs ≡ wrap m (ideal cs)
-      course : History.course (machine (next m) fits) (freshTable n) cs ≡ History.course (machine suc fits) (freshTable n) cs
-      counts : Counts (ideal cs) (since cs)
+    -- the real machine is the ideal one, reduced; it says the same, and has counted right
+    pub record Follows (cs : List Call) : Type 0 where
+      pub table : real cs ≡ wrap m (ideal cs)
+      pub heard : transcript (machine (next m) fits) (freshTable n) cs ≡ transcript (machine suc fits) (freshTable n) cs
+      pub taken : History.taken (machine (next m) fits) (freshTable n) cs ≡ History.taken (machine suc fits) (freshTable n) cs
+      pub counts : Counts (ideal cs) (since cs)
 
     known : (cs : List Call) (p : ℕ) → ideal cs .private p .stage ≤ 18
     known cs p = ideal-kept fits n cs .inv .stands p .known
@@ -147,9 +148,9 @@ module _ (m : ℕ) (two : 1 < m) where
           (λ k. counts-on c t t since _ (λ x. one-told (t .shared x .link) (t .shared x .link) (inl refl)) (λ q z. (refl, inr (z, refl))) counts)
           (λ _. accepted c)
 
-    follows : (cs : List Call) → Premise (machine (next m) fits) (freshTable n) m cs → Follows cs
-    unfolding Premise state History.course changesSince changed
-    follows [] z = record { table = fresh-wraps m n; course = refl; counts = fresh-counts n (since []) }
+    pub follows : (cs : List Call) → Premise (machine (next m) fits) (freshTable n) m cs → Follows cs
+    unfolding Premise state transcript History.taken changesSince changed
+    follows [] z = record { table = fresh-wraps m n; heard = refl; taken = refl; counts = fresh-counts n (since []) }
     follows (c ∷ cs) z =
         let f = follows cs (z .1) in
         let t = ideal cs in
@@ -157,7 +158,8 @@ module _ (m : ℕ) (two : 1 < m) where
         ap (called (next m) fits c) (f .table) ∙ call-wraps m fits t (known cs) c (fair c cs f (z .0)) in
         record {
           table = ap (λ (r : Reply × Table). r .1) e;
-          course = λ i. heard c (e i .0) (f .table i .log) (f .course i);
+          heard = λ i. (c, e i .0) ∷ f .heard i;
+          taken = λ i. takes c (e i .0) (f .table i .log) (f .taken i);
           counts =
               subst⁻¹ (λ (s : ℕ → ℕ → ℕ). Counts (called suc fits c t .1) s)
               (fun-ext (λ q. fun-ext (λ x.
@@ -169,4 +171,4 @@ module _ (m : ℕ) (two : 1 < m) where
     pub modular : Demand3 (machine (next m) fits) (freshTable n) m
     modular cs z =
         let f = follows cs z in
-        subst₂ Holds (sym (f .table)) (sym (f .course)) (holds-wraps (kept-holds (ideal-kept fits n cs)))
+        subst₃ Holds (sym (f .table)) (sym (ap History.course (f .heard))) (sym (f .taken)) (holds-wraps (kept-holds (ideal-kept fits n cs)))

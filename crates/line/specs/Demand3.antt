@@ -9,7 +9,7 @@ use Rattle.link.specs.Operations.{same}
 use Rattle.stage.specs.Calls.{Call, setUp, beginAcquisition, beginRelease, step, takeLog}
 use Rattle.stage.specs.Table.{Table}
 use Rattle.line.specs.PlainLine.{Place, modules}
-use Rattle.line.specs.History.{Desk, Course, table, course}
+use Rattle.line.specs.History.{Desk, Course, course, table, transcript, taken}
 
 -- The premise: "where no link changes 65,536 times or more between one module's reading of it and its swap".
 
@@ -68,17 +68,17 @@ Inside t p = (t .private p .stage ≡ 13) ⊎ (t .private p .stage ≡ 14)
 abbrev pub Names : List ℕ → List ℕ → Type 0
 Names entries firsts = (entries ≡ firsts) ⊎ ((latest : ℕ) × (entries ++ latest ∷ [] ≡ firsts))
 
--- What demand 3 says of a moment: of the table, and of what was made of the history up to then.
-pub record Holds (t : Table) (o : Course) : Type 0 where
+-- What demand 3 says of a moment: of the table, of what was made of the history up to then, and of the entries taken.
+pub record Holds (t : Table) (o : Course) (taken : List ℕ) : Type 0 where
   -- "the records found from the lock word are that line"
   pub found : Found t (modules (o .line))
   -- "at most one module is inside and it is the line's first"
   pub alone : (p q : ℕ) → Inside t p → Inside t q → p ≡ q
   pub first : (p : ℕ) → Inside t p → (others : List ℕ) × (modules (o .line) ≡ p ∷ others)
   -- "the log of admissions names the firsts in order, lacking at most the latest": "all that was ever taken, then what is held"
-  pub log : Names (o .taken ++ t .log) (o .firsts)
+  pub log : Names (taken ++ t .log) (o .firsts)
 
 -- Demand 3 of every history from the state s, where counts run from 0 to m - 1. "At every moment": a history's earlier moments are those of the
 -- histories that it continues.
 abbrev pub Demand3 : (D : Desk) → D .State → ℕ → Type 0
-Demand3 D s m = (cs : List Call) → Premise D s m cs → Holds (table D s cs) (course D s cs)
+Demand3 D s m = (cs : List Call) → Premise D s m cs → Holds (table D s cs) (course (transcript D s cs)) (taken D s cs)

@@ -4,10 +4,10 @@ use mathlib.Core.Bool.{Bool}
 use mathlib.Core.List.{List, [], _∷_, _++_}
 use Rattle.stage.specs.Calls.{Call, setUp, beginAcquisition, beginRelease, step, takeLog, called}
 use Rattle.stage.specs.Table.{Table, upd}
-use Rattle.stage.specs.declared.Reply.{Reply}
-use Rattle.stage.specs.declared.Reply.the-variants.{Refused, Answered}
 use Rattle.stage.specs.declared.Event.{Event}
 use Rattle.stage.specs.declared.Event.the-variants.{Done, Waiting, Admitted, Joined, Left, Finished, Taken}
+use Rattle.stage.specs.declared.Reply.{Reply}
+use Rattle.stage.specs.declared.Reply.the-variants.{Refused, Answered}
 use Rattle.line.specs.PlainLine.{Place, join, leave, firstOf}
 
 -- A desk: what a call says, what it leaves, and the table that a state shows. The machine is one, whose state is the table itself; so is an image.
@@ -22,15 +22,18 @@ abbrev pub machine : (ℕ → ℕ) → (ℕ → Bool) → Desk
 machine bump fits =
     record { State = Table; says = λ c t. called bump fits c t .0; leaves = λ c t. called bump fits c t .1; shows = λ t. t }
 
--- What is made of a history: the plain line; its firsts, in order; all that was ever taken of the log; and the priority that each module was given last.
+-- What is heard of a history: each call and what it said, the latest first.
+abbrev pub Transcript : Type 0
+Transcript = List (Call × Reply)
+
+-- What is made of it: the plain line; its firsts, in order; and the priority that each module was given last.
 pub record Course : Type 0 where
   pub line : List Place
   pub firsts : List ℕ
-  pub taken : List ℕ
   pub given : ℕ → ℕ
 
 unfoldable pub start : Course
-start = record { line = []; firsts = []; taken = []; given = λ p. 0 }
+start = record { line = []; firsts = []; given = λ p. 0 }
 
 -- who joins an empty line is a first
 unfoldable pub entering : ℕ → List Place → List ℕ
@@ -46,33 +49,40 @@ stepping p Joined o =
     record {
       line = join (record { module· = p; priority = o .given p }) (o .line);
       firsts = o .firsts ++ entering p (o .line);
-      taken = o .taken;
       given = o .given;
     }
 stepping p Left o =
-    record {
-      line = leave (o .line);
-      firsts = o .firsts ++ firstOf (leave (o .line));
-      taken = o .taken;
-      given = o .given;
-    }
+    record { line = leave (o .line); firsts = o .firsts ++ firstOf (leave (o .line)); given = o .given }
 stepping p Finished o = o
 stepping p (Taken k) o = o
 
--- an accepted call with its event, while the log held `held`. "A new set-up starts a new history."
-unfoldable pub accepted : Call → Event → List ℕ → Course → Course
-accepted (setUp k) e held o = start
-accepted (beginAcquisition p r) e held o = record { line = o .line; firsts = o .firsts; taken = o .taken; given = upd (o .given) p r }
-accepted (beginRelease p) e held o = o
-accepted (step p) e held o = stepping p e o
-accepted (takeLog room) e held o = record { line = o .line; firsts = o .firsts; taken = o .taken ++ held; given = o .given }
+-- an accepted call with its event. "A new set-up starts a new history."
+unfoldable pub accepted : Call → Event → Course → Course
+accepted (setUp k) e o = start
+accepted (beginAcquisition p r) e o = record { line = o .line; firsts = o .firsts; given = upd (o .given) p r }
+accepted (beginRelease p) e o = o
+accepted (step p) e o = stepping p e o
+accepted (takeLog room) e o = o
 
 -- a refused call changes nothing
-unfoldable pub heard : Call → Reply → List ℕ → Course → Course
-heard c (Refused k) held o = o
-heard c (Answered a) held o = accepted c (a .event) held o
+unfoldable pub heard : Call → Reply → Course → Course
+heard c (Refused k) o = o
+heard c (Answered a) o = accepted c (a .event) o
 
--- A history is a list of calls, the latest first. From the state s on the desk D, the state, the table and the course after it.
+unfoldable pub course : Transcript → Course
+course [] = start
+course (x ∷ earlier) = heard (x .0) (x .1) (course earlier)
+
+-- "all that was ever taken" of the log, one call on, where `held` was held
+unfoldable pub takes : Call → Reply → List ℕ → List ℕ → List ℕ
+takes c (Refused k) held taken = taken
+takes (setUp k) (Answered a) held taken = []
+takes (beginAcquisition p r) (Answered a) held taken = taken
+takes (beginRelease p) (Answered a) held taken = taken
+takes (step p) (Answered a) held taken = taken
+takes (takeLog room) (Answered a) held taken = taken ++ held
+
+-- A history is a list of calls, the latest first. After it, from the state s on the desk D:
 module _ (D : Desk) (s : D .State) where
   unfoldable pub state : List Call → D .State
   state [] = s
@@ -81,6 +91,10 @@ module _ (D : Desk) (s : D .State) where
   abbrev pub table : List Call → Table
   table cs = D .shows (state cs)
 
-  unfoldable pub course : List Call → Course
-  course [] = start
-  course (c ∷ earlier) = heard c (D .says c (state earlier)) (table earlier .log) (course earlier)
+  unfoldable pub transcript : List Call → Transcript
+  transcript [] = []
+  transcript (c ∷ earlier) = (c, D .says c (state earlier)) ∷ transcript earlier
+
+  unfoldable pub taken : List Call → List ℕ
+  taken [] = []
+  taken (c ∷ earlier) = takes c (D .says c (state earlier)) (table earlier .log) (taken earlier)

@@ -1,3 +1,4 @@
 pub mod PlainLine
 pub mod History
 pub mod Demand3
+pub mod Corollaries
