@@ -10,7 +10,7 @@ use native.Mathlib.Nat.{le-refl}
 use native.Mathlib.Omega.{arith}
 use Rattle.laws.proofs.Cases.{choose}
 use Rattle.laws.proofs.Only.{included}
-use Rattle.link.proofs.Same.{same-true}
+use Rattle.link.proofs.Comparing.{same-true}
 use Rattle.link.specs.Operations.{OPEN, same, changed, swapped}
 use Rattle.link.specs.declared.Link.{Link}
 use Rattle.link.specs.declared.Swapped.{Swapped}

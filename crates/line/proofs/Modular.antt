@@ -11,7 +11,7 @@ use native.Mathlib.Numerals.{add-one}
 use Rattle.laws.proofs.Cases.{test}
 use Rattle.laws.proofs.Only.{among}
 use Rattle.link.proofs.Counting.{told-apart}
-use Rattle.link.proofs.Same.{same-true, same-self, same-not}
+use Rattle.link.proofs.Comparing.{same-true, same-self, same-not}
 use Rattle.link.specs.Count.{next}
 use Rattle.link.specs.Operations.{same}
 use Rattle.link.specs.declared.Link.{Link}

@@ -37,6 +37,19 @@ fn changed(l: Link, to: u8, marked: u8) -> Link
     }
 }
 
+// Whether all three parts are equal.
+fn same(l: Link, expected: Link) -> bool
+    ensures { λ r. ⌜ r ≡ Operations.same l expected ⌝ }
+{
+    if l.pointer != expected.pointer {
+        return false;
+    }
+    if l.mark != expected.mark {
+        return false;
+    }
+    l.count == expected.count
+}
+
 impl Link {
     // Nil, closed, count 0.
     pub const FRESH: Link = Link {
@@ -70,15 +83,10 @@ impl Link {
     pub fn swap(self, expected: Link, to: u8) -> Swapped
         ensures { λ r. ⌜ r ≡ swapped (next size) self expected to ⌝ }
     {
-        if self.pointer != expected.pointer {
+        let now = changed(self, to, OPEN);
+        if !same(self, expected) {
             return Swapped::Failed(self);
         }
-        if self.mark != expected.mark {
-            return Swapped::Failed(self);
-        }
-        if self.count != expected.count {
-            return Swapped::Failed(self);
-        }
-        Swapped::Done(changed(self, to, OPEN))
+        Swapped::Done(now)
     }
 }

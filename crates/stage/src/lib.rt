@@ -184,9 +184,9 @@ pub fn step(p: u8, mut me: Private, mut its: Shared, lock: u8) -> Stepped
             }
         }
         5 => {
-            let found = its.link;
-            me.w = found;
-            if found.mark == link::CLOSED {
+            let read = its.link;
+            me.w = read;
+            if read.mark == link::CLOSED {
                 me.stage = 1;
                 return Stepped {
                     me,
@@ -204,7 +204,8 @@ pub fn step(p: u8, mut me: Private, mut its: Shared, lock: u8) -> Stepped
             }
         }
         6 => {
-            if its.priority < me.own {
+            let ahead = its.priority;
+            if ahead < me.own {
                 me.stage = 1;
                 return Stepped {
                     me,
@@ -231,7 +232,8 @@ pub fn step(p: u8, mut me: Private, mut its: Shared, lock: u8) -> Stepped
             }
         }
         7 => {
-            if its.priority < me.own {
+            let next = its.priority;
+            if next < me.own {
                 me.stage = 8;
                 return Stepped {
                     me,
@@ -294,7 +296,8 @@ pub fn step(p: u8, mut me: Private, mut its: Shared, lock: u8) -> Stepped
             }
         }
         10 => {
-            if its.priority < me.own {
+            let still = its.priority;
+            if still < me.own {
                 me.stage = 1;
                 return Stepped {
                     me,
