@@ -1,14 +1,14 @@
 -- Who has joined and not left, in the order of joining, against the plain line: the same modules, and equals in the same order.
 -- Assumes nothing.
 use Prim.Native.Nat.{ℕ, _≤_, _<_}
-use mathlib.Core.Path.{_≡_, refl, sym, _∙_, ap, subst, subst⁻¹}
+use mathlib.Core.Path.{_≡_, refl, sym, _∙_, ap, subst, subst⁻¹, transport⁻¹}
 use mathlib.Core.List.{List, [], _∷_, _++_}
 use mathlib.Core.Logic.{_⊎_, inl, inr, ⊎-elim, _≢_}
 use native.Mathlib.Nat.{le-of-eq}
 use native.Mathlib.Omega.{arith}
 use Rattle.line.specs.Corollaries.{OneOf, Ahead, InLine, without}
 use Rattle.line.specs.PlainLine.{Place, stand, join, leave, modules}
-use Rattle.line.proofs.Dropping.{one-append, append-one, ahead-append, one-without, without-one, ahead-without, twice}
+use Rattle.line.proofs.Lists.{one-append, append-one, ahead-append, one-without, without-one, ahead-without, twice}
 use Rattle.line.proofs.Places.{In, Distinct, Sorted, head, behind, standing}
 
 -- nobody in a sorted line is more urgent than its first
@@ -92,7 +92,7 @@ join-stood x l s sorted out st =
     j = joined x l sorted
 
     new : (q : ℕ) → OneOf q (modules l) → q ≡ p → ⊥
-    new q i e = out (subst (λ (k : ℕ). In k l) e (subst⁻¹ (λ (A : Type 0). A) (in-modules q l) i))
+    new q i e = out (subst (λ (k : ℕ). In k l) e (transport⁻¹ (in-modules q l) i))
 
 pub leave-stood : (l : List Place) (s : List ℕ) → l ≢ [] → Distinct l → Stood l s → Stood (leave l) (without (head l) s)
 unfolding leave modules
@@ -111,7 +111,7 @@ leave-stood (x ∷ l) s some d st =
     p = x .module·
 
     other : (q : ℕ) → OneOf q (modules l) → q ≢ p
-    other q i e = d .0 (subst (λ (k : ℕ). In k l) e (subst⁻¹ (λ (A : Type 0). A) (in-modules q l) i))
+    other q i e = d .0 (subst (λ (k : ℕ). In k l) e (transport⁻¹ (in-modules q l) i))
 
 pub none-stood : Stood [] []
 unfolding modules

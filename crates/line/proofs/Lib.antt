@@ -22,7 +22,7 @@ pub mod Wrap
 pub mod WrapCalls
 pub mod Counted
 pub mod Modular
-pub mod Dropping
+pub mod Lists
 pub mod Joiners
 pub mod OneFound
 pub mod Remembering

@@ -4,7 +4,7 @@ use Prim.Native.Nat.{ℕ, suc, _+_}
 use mathlib.Core.Path.{_≡_, refl, sym, _∙_, ap, subst, subst⁻¹}
 use mathlib.Core.Bool.{Bool, true, false, cond, not}
 use mathlib.Core.List.{List, [], _∷_, _++_}
-use mathlib.Core.Logic.{_≢_, inl, inr, ⊎-elim}
+use mathlib.Core.Logic.{_≢_}
 use lib.Dec.{T, T-not, eqb, ltb}
 use borrow.Author.Tests.{eqb-true, eq-eqb, ne-eqb}
 use native.Mathlib.Omega.{arith}
@@ -13,34 +13,35 @@ use Rattle.laws.proofs.Only.{only, among, disjoint, included}
 use Rattle.link.proofs.Same.{same-true}
 use Rattle.link.specs.Operations.{same, swapped, CLOSED}
 use Rattle.link.specs.declared.Link.{Link}
-use Rattle.link.specs.declared.Swapped.{Swapped}
 use Rattle.stage.proofs.ByStage.{by-stage}
 use Rattle.stage.proofs.Update.{upd-all}
-use Rattle.stage.specs.Calls.{Call, setUp, beginAcquisition, beginRelease, step, takeLog}
+use Rattle.stage.specs.Calls.{step}
 use Rattle.stage.specs.Rows.{find, rows, noStep, looksAt, stepped, row1, row2, row3, row4, row5, row6, row7, row8, after9, row9, row10, row11, row12, row14, row15, row16, row17, row18}
 use Rattle.stage.specs.Table.{upd}
-use Rattle.stage.specs.declared.Event.{Event}
 use Rattle.stage.specs.declared.Event.the-variants.{Done, Waiting, Admitted, Joined, Left, Finished, Taken}
 use Rattle.stage.specs.declared.Private.{Private}
-use Rattle.stage.specs.declared.Reply.the-variants.{Refused, Answered}
+use Rattle.stage.specs.declared.Reply.the-variants.{Answered}
 use Rattle.stage.specs.declared.Shared.{Shared}
 use Rattle.stage.specs.declared.Stepped.{Stepped}
 use Rattle.line.specs.Corollaries as C
 use Rattle.line.specs.Corollaries.{Step, stepIn, stands, unlessSetUp, standing, releasing, ownSteps, someone, leavesNow, succeeded, without}
-use Rattle.line.specs.History.{Course, Transcript, course, heard, accepted, stepping}
+use Rattle.line.specs.History.{Transcript, course, heard, accepted, stepping}
 use Rattle.line.specs.PlainLine.{Place, join, leave}
 use Rattle.line.proofs.Facts.{stands-at, seeks-at, holder-at, empty, free}
 use Rattle.line.proofs.Invariant.{Inv, outs, holders, leavers}
 use Rattle.line.proofs.Joiners.{Stood, join-stood, leave-stood}
-use Rattle.line.proofs.Places.{In, Sorted, head, behind}
+use Rattle.line.proofs.Places.{In, Sorted, behind}
 
--- of a module at stage k: where it is a release after its leave, how many steps it has taken and whether it has a successor
-abbrev pub Released : List Place → ℕ → Bool → ℕ → Type 0
-Released l steps successor k = only (among k leavers) ((steps + 14 ≡ k) × (successor ≡ someone l))
+-- of a module q: where it is a release after its leave, how many steps it has taken, and whether it has a successor
+abbrev pub Released : List Place → (ℕ → ℕ) → (ℕ → Bool) → ℕ → Private → Type 0
+Released l steps successor q me = only (among (me .stage) leavers) ((steps q + 14 ≡ me .stage) × (successor q ≡ someone l))
 
 -- k is no stage of a release after its leave
-abbrev Away : ℕ → Type 0
+abbrev pub Away : ℕ → Type 0
 Away k = T (not (among k leavers))
+
+pub no-release : {A : Type 0} (k : ℕ) → Away k → only (among k leavers) A
+no-release k away t = absurd (T-not (among k leavers) away t)
 
 -- what a leave, and the last step of a release, say of the transcript h that they end
 abbrev pub Said : Step → Transcript → Transcript → Type 0
@@ -60,7 +61,7 @@ Latest (x ∷ earlier) = Said (stepIn (x .0) (x .1)) (x ∷ earlier) earlier
 abbrev pub Remembered : Transcript → (ℕ → Private) → Type 0
 Remembered h private =
     Stood (course h .line) (standing h)
-    × ((q : ℕ) → Released (course h .line) (ownSteps q h) (succeeded q h) (private q .stage))
+    × ((q : ℕ) → Released (course h .line) (λ r. ownSteps r h) (λ r. succeeded r h) q (private q))
     × Latest h
 
 someone-in : (l : List Place) → l ≢ [] → someone l ≡ true
@@ -89,60 +90,64 @@ module _ (h : Transcript) {private : ℕ → Private} {sh : ℕ → Shared} {loc
   leaver : (q : ℕ) → T (among (private q .stage) leavers) → q ≡ holder
   leaver q t = i .stands q .holds (included leavers holders tt (private q .stage) t)
 
-  released-at : (k : ℕ) → private p .stage ≡ k → Released l (ownSteps p h) (succeeded p h) k
-  released-at k e = subst (λ (j : ℕ). Released l (ownSteps p h) (succeeded p h) j) e (before .1 p)
+  released-at : (k : ℕ) → private p .stage ≡ k → T (among k leavers) → (ownSteps p h + 14 ≡ k) × (succeeded p h ≡ someone l)
+  released-at k e t = let r = before .1 p (subst⁻¹ (λ (j : ℕ). T (among j leavers)) e t) in (r .0 ∙ e, r .1)
 
-  -- a step that is no leave; the line stays empty, or not empty, while somebody leaves
-  on : (l′ : List Place) → (T (among (private holder .stage) leavers) → someone l′ ≡ someone l)
-      → (me′ : Private) → Released l′ (ownSteps p h + 1) (succeeded p h) (me′ .stage)
-      → (q : ℕ) → Released l′ (cond (eqb p q) (ownSteps q h + 1) (ownSteps q h)) (succeeded q h) (upd private p me′ q .stage)
-  on l′ as·was me′ here =
-      upd-all private p me′ (λ q me. Released l′ (cond (eqb p q) (ownSteps q h + 1) (ownSteps q h)) (succeeded q h) (me .stage))
-      (simp (eq-eqb p p refl) here)
-      (λ q n t. simp (ne-eqb p q (λ z. n (sym z)))
-      (let r = before .1 q t in (r .0, r .1 ∙ sym (as·was (subst (λ (j : ℕ). T (among (private j .stage) leavers)) (leaver q t) t)))))
+  -- after a step of p that is no leave, where `said` is what it says
+  abbrev more : ℕ → ℕ
+  more q = cond (eqb p q) (ownSteps q h + 1) (ownSteps q h)
 
-  abbrev Stays : List Place → List ℕ → Private → Type 0
-  Stays l′ s me′ =
-      Stood l′ s × ((q : ℕ) → Released l′ (cond (eqb p q) (ownSteps q h + 1) (ownSteps q h)) (succeeded q h) (upd private p me′ q .stage)) × Unit {0}
+  abbrev Stays : Private → List Place → List ℕ → Type 0 → Type 0
+  Stays me′ l′ s said = Stood l′ s × ((q : ℕ) → Released l′ more (λ r. succeeded r h) q (upd private p me′ q)) × said
 
-  -- no join, no leave, and no release
-  calm : (me′ : Private) → Away (me′ .stage) → Stays l (standing h) me′
-  calm me′ away = (before .0, on l (λ t. refl) me′ (λ t. absurd (T-not (among (me′ .stage) leavers) away t)), tt)
+  -- the line stays empty, or not empty, while somebody leaves
+  on : {l′ : List Place} {s : List ℕ} → Stood l′ s → (T (among (private holder .stage) leavers) → someone l′ ≡ someone l)
+      → (me′ : Private) → only (among (me′ .stage) leavers) ((ownSteps p h + 1 + 14 ≡ me′ .stage) × (succeeded p h ≡ someone l′))
+      → Stays me′ l′ s (Unit {0})
+  on {l′} st as·was me′ here = (
+    st,
+    upd-all private p me′ (Released l′ more (λ r. succeeded r h)) (simp (eq-eqb p p refl) here)
+        (λ q n t. simp (ne-eqb p q (λ z. n (sym z)))
+        (let r = before .1 q t in (r .0, r .1 ∙ sym (as·was (subst (λ (j : ℕ). T (among (private j .stage) leavers)) (leaver q t) t))))),
+    tt,
+  )
 
-  -- a release, one stage on
-  onward : (k : ℕ) → private p .stage ≡ k → T (among k leavers) → (me′ : Private) → me′ .stage ≡ k + 1 → Stays l (standing h) me′
-  onward k e t me′ e′ = (before .0, on l (λ t. refl) me′ (λ _. let r = released-at k e t in (omega arith, r .1)), tt)
-
+  -- no release goes on
   joins : (In p l → ⊥) → (T (among (private holder .stage) leavers) → someone (join x l) ≡ someone l)
-      → (me′ : Private) → Away (me′ .stage) → Stays (join x l) (standing h ++ p ∷ []) me′
-  joins out as·was me′ away =
-      (join-stood x l (standing h) (i .sorted) out (before .0), on (join x l) as·was me′ (λ t. absurd (T-not (among (me′ .stage) leavers) away t)), tt)
+      → (me′ : Private) → Away (me′ .stage) → Stays me′ (join x l) (standing h ++ p ∷ []) (Unit {0})
+  joins out as·was me′ away = on (join-stood x l (standing h) (i .sorted) out (before .0)) as·was me′ (no-release (me′ .stage) away)
+
+  calm : (me′ : Private) → Away (me′ .stage) → Stays me′ l (standing h) (Unit {0})
+  calm me′ away = on (before .0) (λ t. refl) me′ (no-release (me′ .stage) away)
+
+  -- a release goes one stage on
+  onward : (k : ℕ) → private p .stage ≡ k → T (among k leavers) → (me′ : Private) → me′ .stage ≡ k + 1 → Stays me′ l (standing h) (Unit {0})
+  onward k e t me′ e′ = on (before .0) (λ t. refl) me′ (λ _. let r = released-at k e t in (omega arith, r .1))
+
+  -- a release ends, where b says whether somebody is in the line
+  finishes : (k : ℕ) → private p .stage ≡ k → T (among k leavers) → (b : Bool) → someone l ≡ b → k + 1 ≡ cond b 5 3 + 14
+      → (me′ : Private) → Away (me′ .stage) → Stays me′ l (standing h) (more p ≡ cond (succeeded p h) 5 3)
+  finishes k e t b b·is last me′ away =
+      let c = calm me′ away in
+      let r = released-at k e t in
+      (c .0, c .1, simp (eq-eqb p p refl, r .1, b·is) (omega arith))
+
+  -- after its leave
+  abbrev once : ℕ → ℕ
+  once q = cond (eqb p q) 1 (ownSteps q h)
 
   leaves : private p .stage ≡ 14 → (me′ : Private) → me′ .stage ≡ 15
       → Stood (leave l) (without p (standing h))
-      × ((q : ℕ) → Released (leave l) (cond (eqb p q) 1 (ownSteps q h)) (cond (eqb p q) (someone (leave l)) (succeeded q h)) (upd private p me′ q .stage))
+      × ((q : ℕ) → Released (leave l) once (λ r. cond (eqb p r) (someone (leave l)) (succeeded r h)) q (upd private p me′ q))
       × Sorted (leave l)
   leaves e me′ e′ =
       let p·holder = stands-at i p 14 e .holds tt in
       let f = holder-at i p 14 e p·holder .first tt in (
         subst (λ (q : ℕ). Stood (leave l) (without q (standing h))) (f .2) (leave-stood l (standing h) (f .1) (i .distinct) (before .0)),
-        upd-all private p me′ (λ q me. Released (leave l) (cond (eqb p q) 1 (ownSteps q h)) (cond (eqb p q) (someone (leave l)) (succeeded q h)) (me .stage))
-            (λ t. simp (eq-eqb p p refl) (sym e′, refl))
-            (λ q n t. absurd (n (leaver q t ∙ sym p·holder))),
+        upd-all private p me′ (Released (leave l) once (λ r. cond (eqb p r) (someone (leave l)) (succeeded r h)))
+            (λ t. simp (eq-eqb p p refl) (sym e′, refl)) (λ q n t. absurd (n (leaver q t ∙ sym p·holder))),
         sorted-leave l (i .sorted),
       )
-
-  -- the last step of a release
-  finishes : (k : ℕ) → private p .stage ≡ k → T (among k leavers) → (b : Bool) → someone l ≡ b → k + 1 ≡ cond b 5 3 + 14
-      → (me′ : Private) → Away (me′ .stage)
-      → Stood l (standing h)
-      × ((q : ℕ) → Released l (cond (eqb p q) (ownSteps q h + 1) (ownSteps q h)) (succeeded q h) (upd private p me′ q .stage))
-      × (cond (eqb p p) (ownSteps p h + 1) (ownSteps p h) ≡ cond (succeeded p h) 5 3)
-  finishes k e t b b·is last me′ away =
-      let r = released-at k e t in
-      let c = calm me′ away in
-      (c .0, c .1, simp (eq-eqb p p refl, r .1, b·is) (omega arith))
 
   pub step-remembers :
       let r = stepped suc p (private p) (sh (looksAt p (private p))) lock in
