@@ -29,37 +29,37 @@ use Rattle.line.proofs.WrapCalls.{wrap}
 begins : (h : Transcript) (private : ℕ → Private) → Remembered h private → (p : ℕ) (me′ : Private) → Away (me′ .stage)
     → (q : ℕ) → Released (course h .line) (λ r. ownSteps r h) (λ r. succeeded r h) q (upd private p me′ q)
 begins h private m p me′ away =
-    upd-all private p me′ (Released (course h .line) (λ r. ownSteps r h) (λ r. succeeded r h)) (no-release (me′ .stage) away) (λ q _. m .1 q)
+    upd-all private p me′ (Released (course h .line) (λ r. ownSteps r h) (λ r. succeeded r h)) (no-release (me′ .stage) away) (λ q _. m .released q)
 
 accepted-remembers : (c : Call) (h : Transcript) {taken : List ℕ} (t : Table) → Kept (course h) taken t → Remembered h (t .private)
     → Remembered ((c, Answered (answered suc c t)) ∷ h) (after suc c t .private)
 unfolding answered after freshTable idle begunAcquisition begunRelease stepOf afterStep logTaken start course heard accepted
     standing unlessSetUp stepIn stands ownSteps releasing succeeded leavesNow
-accepted-remembers (setUp k) h t kept m = (none-stood, (λ q. absurd), tt)
-accepted-remembers (beginAcquisition p r) h t kept m = (m .0, begins h (t .private) m p _ tt, tt)
-accepted-remembers (beginRelease p) h t kept m = (m .0, begins h (t .private) m p _ tt, tt)
+accepted-remembers (setUp k) h t kept m = record { stood = none-stood; released = λ q. absurd; latest = tt }
+accepted-remembers (beginAcquisition p r) h t kept m = record { stood = m .stood; released = begins h (t .private) m p _ tt; latest = tt }
+accepted-remembers (beginRelease p) h t kept m = record { stood = m .stood; released = begins h (t .private) m p _ tt; latest = tt }
 accepted-remembers (step p) h t kept m = step-remembers h (kept .inv) m p
-accepted-remembers (takeLog room) h t kept m = (m .0, m .1, tt)
+accepted-remembers (takeLog room) h t kept m = record { stood = m .stood; released = m .released; latest = tt }
 
 remembered : (fits : ℕ → Bool) (n : ℕ) (cs : List Call) → Remembered (transcript (machine suc fits) (freshTable n) cs) (state (machine suc fits) (freshTable n) cs .private)
 unfolding transcript state called course heard standing unlessSetUp stepIn stands ownSteps releasing succeeded leavesNow freshTable idle start
-remembered fits n [] = (none-stood, (λ q. absurd), tt)
+remembered fits n [] = record { stood = none-stood; released = λ q. absurd; latest = tt }
 remembered fits n (c ∷ cs) =
     let m = remembered fits n cs in
     refused-or (λ (r : Reply × Table). Remembered ((c, r .0) ∷ transcript (machine suc fits) (freshTable n) cs) (r .1 .private)) (refusals suc fits c _) _ _
-    (λ k. (m .0, m .1, tt)) (λ _. accepted-remembers c _ _ (ideal-kept fits n cs) m)
+    (λ k. record { stood = m .stood; released = m .released; latest = tt }) (λ _. accepted-remembers c _ _ (ideal-kept fits n cs) m)
 
 corollaries : {h : Transcript} {taken : List ℕ} {t : Table} → Kept (course h) taken t → Remembered h (t .private) → Corollaries h t
 unfolding stepIn
 corollaries {h} {t = t} kept m =
     record {
-      none-lost = λ l f p i. subst (OneOf p) (line l f) (m .0 .from p i);
+      none-lost = λ l f p i. subst (OneOf p) (line l f) (m .stood .from p i);
       one-line = found-one t;
-      no-other = λ l f p i. m .0 .to p (subst⁻¹ (OneOf p) (line l f) i);
+      no-other = λ l f p i. m .stood .to p (subst⁻¹ (OneOf p) (line l f) i);
       most-urgent = λ earlier p e first others now.
-          under first others (subst Sorted (sym (ap (λ (h′ : Transcript). course h′ .line) e) ∙ now) (subst Latest e (m .2)));
-      equals-in-order = m .0 .order;
-      release-steps = λ earlier p e. ap (ownSteps p) e ∙ subst Latest e (m .2);
+          under first others (subst Sorted (sym (ap (λ (h′ : Transcript). course h′ .line) e) ∙ now) (subst Latest e (m .latest)));
+      equals-in-order = m .stood .order;
+      release-steps = λ earlier p e. ap (ownSteps p) e ∙ subst Latest e (m .latest);
     }
   where
     line : (l : List ℕ) → Found t l → modules (course h .line) ≡ l

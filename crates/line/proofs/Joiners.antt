@@ -1,7 +1,7 @@
 -- Who has joined and not left, in the order of joining, against the plain line: the same modules, and equals in the same order.
 -- Assumes nothing.
 use Prim.Native.Nat.{ℕ, _≤_, _<_}
-use mathlib.Core.Path.{_≡_, refl, sym, _∙_, ap, subst, subst⁻¹, transport⁻¹}
+use mathlib.Core.Path.{_≡_, refl, sym, _∙_, ap, subst, subst⁻¹}
 use mathlib.Core.List.{List, [], _∷_, _++_}
 use mathlib.Core.Logic.{_⊎_, inl, inr, ⊎-elim, _≢_}
 use native.Mathlib.Nat.{le-of-eq}
@@ -16,10 +16,11 @@ pub under : (y : Place) (l : List Place) → Sorted (y ∷ l) → (z : Place) �
 under y (x ∷ l) s z (inl e) = omega (arith, ap (λ (w : Place). w .priority) e)
 under y (x ∷ l) s z (inr i) = omega (arith, under x l (s .1) z i)
 
-in-modules : (q : ℕ) (l : List Place) → In q l ≡ OneOf q (modules l)
+-- who is not in the line is none of its modules
+apart : (p : ℕ) (l : List Place) → (In p l → ⊥) → (q : ℕ) → OneOf q (modules l) → q ≢ p
 unfolding modules
-in-modules q [] = refl
-in-modules q (x ∷ l) = ap (λ (A : Type 0). (q ≡ x .module·) ⊎ A) (in-modules q l)
+apart p (x ∷ l) out q (inl a) e = out (inl (sym e ∙ a))
+apart p (x ∷ l) out q (inr i) e = apart p l (λ k. out (inr k)) q i e
 
 place-in : (x : Place) (l : List Place) → InLine x l → OneOf (x .module·) (modules l)
 unfolding modules
@@ -91,8 +92,8 @@ join-stood x l s sorted out st =
     j : Joined x l (join x l)
     j = joined x l sorted
 
-    new : (q : ℕ) → OneOf q (modules l) → q ≡ p → ⊥
-    new q i e = out (subst (λ (k : ℕ). In k l) e (transport⁻¹ (in-modules q l) i))
+    new : (q : ℕ) → OneOf q (modules l) → q ≢ p
+    new = apart p l out
 
 pub leave-stood : (l : List Place) (s : List ℕ) → l ≢ [] → Distinct l → Stood l s → Stood (leave l) (without (head l) s)
 unfolding leave modules
@@ -111,7 +112,7 @@ leave-stood (x ∷ l) s some d st =
     p = x .module·
 
     other : (q : ℕ) → OneOf q (modules l) → q ≢ p
-    other q i e = d .0 (subst (λ (k : ℕ). In k l) e (transport⁻¹ (in-modules q l) i))
+    other = apart p l (d .0)
 
 pub none-stood : Stood [] []
 unfolding modules

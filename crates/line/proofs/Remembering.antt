@@ -60,9 +60,11 @@ Latest (x ∷ earlier) = Said (stepIn (x .0) (x .1)) (x ∷ earlier) earlier
 
 abbrev pub Remembered : Transcript → (ℕ → Private) → Type 0
 Remembered h private =
-    Stood (course h .line) (standing h)
-    × ((q : ℕ) → Released (course h .line) (λ r. ownSteps r h) (λ r. succeeded r h) q (private q))
-    × Latest h
+    record {
+      stood : Stood (course h .line) (standing h);
+      released : (q : ℕ) → Released (course h .line) (λ r. ownSteps r h) (λ r. succeeded r h) q (private q);
+      latest : Latest h;
+    }
 
 someone-in : (l : List Place) → l ≢ [] → someone l ≡ true
 unfolding someone
@@ -91,38 +93,40 @@ module _ (h : Transcript) {private : ℕ → Private} {sh : ℕ → Shared} {loc
   leaver q t = i .stands q .holds (included leavers holders tt (private q .stage) t)
 
   released-at : (k : ℕ) → private p .stage ≡ k → T (among k leavers) → (ownSteps p h + 14 ≡ k) × (succeeded p h ≡ someone l)
-  released-at k e t = let r = before .1 p (subst⁻¹ (λ (j : ℕ). T (among j leavers)) e t) in (r .0 ∙ e, r .1)
+  released-at k e t = let r = before .released p (subst⁻¹ (λ (j : ℕ). T (among j leavers)) e t) in (r .0 ∙ e, r .1)
 
   -- after a step of p that is no leave, where `said` is what it says
   abbrev more : ℕ → ℕ
   more q = cond (eqb p q) (ownSteps q h + 1) (ownSteps q h)
 
   abbrev Stays : Private → List Place → List ℕ → Type 0 → Type 0
-  Stays me′ l′ s said = Stood l′ s × ((q : ℕ) → Released l′ more (λ r. succeeded r h) q (upd private p me′ q)) × said
+  Stays me′ l′ s said = record { stood : Stood l′ s; released : (q : ℕ) → Released l′ more (λ r. succeeded r h) q (upd private p me′ q); latest : said }
 
   -- the line stays empty, or not empty, while somebody leaves
   on : {l′ : List Place} {s : List ℕ} → Stood l′ s → (T (among (private holder .stage) leavers) → someone l′ ≡ someone l)
       → (me′ : Private) → only (among (me′ .stage) leavers) ((ownSteps p h + 1 + 14 ≡ me′ .stage) × (succeeded p h ≡ someone l′))
       → Stays me′ l′ s (Unit {0})
-  on {l′} st as·was me′ here = (
-    st,
-    upd-all private p me′ (Released l′ more (λ r. succeeded r h)) (simp (eq-eqb p p refl) here)
-        (λ q n t. simp (ne-eqb p q (λ z. n (sym z)))
-        (let r = before .1 q t in (r .0, r .1 ∙ sym (as·was (subst (λ (j : ℕ). T (among (private j .stage) leavers)) (leaver q t) t))))),
-    tt,
-  )
+  on {l′} st as·was me′ here =
+      record {
+        stood = st;
+        released =
+            upd-all private p me′ (Released l′ more (λ r. succeeded r h)) (simp (eq-eqb p p refl) here)
+            (λ q n t. simp (ne-eqb p q (λ z. n (sym z)))
+            (let r = before .released q t in (r .0, r .1 ∙ sym (as·was (subst (λ (j : ℕ). T (among (private j .stage) leavers)) (leaver q t) t)))));
+        latest = tt;
+      }
 
   -- no release goes on
   joins : (In p l → ⊥) → (T (among (private holder .stage) leavers) → someone (join x l) ≡ someone l)
       → (me′ : Private) → Away (me′ .stage) → Stays me′ (join x l) (standing h ++ p ∷ []) (Unit {0})
-  joins out as·was me′ away = on (join-stood x l (standing h) (i .sorted) out (before .0)) as·was me′ (no-release (me′ .stage) away)
+  joins out as·was me′ away = on (join-stood x l (standing h) (i .sorted) out (before .stood)) as·was me′ (no-release (me′ .stage) away)
 
   calm : (me′ : Private) → Away (me′ .stage) → Stays me′ l (standing h) (Unit {0})
-  calm me′ away = on (before .0) (λ t. refl) me′ (no-release (me′ .stage) away)
+  calm me′ away = on (before .stood) (λ t. refl) me′ (no-release (me′ .stage) away)
 
   -- a release goes one stage on
   onward : (k : ℕ) → private p .stage ≡ k → T (among k leavers) → (me′ : Private) → me′ .stage ≡ k + 1 → Stays me′ l (standing h) (Unit {0})
-  onward k e t me′ e′ = on (before .0) (λ t. refl) me′ (λ _. let r = released-at k e t in (omega arith, r .1))
+  onward k e t me′ e′ = on (before .stood) (λ t. refl) me′ (λ _. let r = released-at k e t in (omega arith, r .1))
 
   -- a release ends, where b says whether somebody is in the line
   finishes : (k : ℕ) → private p .stage ≡ k → T (among k leavers) → (b : Bool) → someone l ≡ b → k + 1 ≡ cond b 5 3 + 14
@@ -130,24 +134,28 @@ module _ (h : Transcript) {private : ℕ → Private} {sh : ℕ → Shared} {loc
   finishes k e t b b·is last me′ away =
       let c = calm me′ away in
       let r = released-at k e t in
-      (c .0, c .1, simp (eq-eqb p p refl, r .1, b·is) (omega arith))
+      record { stood = c .stood; released = c .released; latest = simp (eq-eqb p p refl, r .1, b·is) (omega arith) }
 
   -- after its leave
   abbrev once : ℕ → ℕ
   once q = cond (eqb p q) 1 (ownSteps q h)
 
   leaves : private p .stage ≡ 14 → (me′ : Private) → me′ .stage ≡ 15
-      → Stood (leave l) (without p (standing h))
-      × ((q : ℕ) → Released (leave l) once (λ r. cond (eqb p r) (someone (leave l)) (succeeded r h)) q (upd private p me′ q))
-      × Sorted (leave l)
+      → record {
+        stood : Stood (leave l) (without p (standing h));
+        released : (q : ℕ) → Released (leave l) once (λ r. cond (eqb p r) (someone (leave l)) (succeeded r h)) q (upd private p me′ q);
+        latest : Sorted (leave l);
+      }
   leaves e me′ e′ =
       let p·holder = stands-at i p 14 e .holds tt in
-      let f = holder-at i p 14 e p·holder .first tt in (
-        subst (λ (q : ℕ). Stood (leave l) (without q (standing h))) (f .2) (leave-stood l (standing h) (f .1) (i .distinct) (before .0)),
-        upd-all private p me′ (Released (leave l) once (λ r. cond (eqb p r) (someone (leave l)) (succeeded r h)))
-            (λ t. simp (eq-eqb p p refl) (sym e′, refl)) (λ q n t. absurd (n (leaver q t ∙ sym p·holder))),
-        sorted-leave l (i .sorted),
-      )
+      let f = holder-at i p 14 e p·holder .first tt in
+      record {
+        stood = subst (λ (q : ℕ). Stood (leave l) (without q (standing h))) (f .2) (leave-stood l (standing h) (f .1) (i .distinct) (before .stood));
+        released =
+            upd-all private p me′ (Released (leave l) once (λ r. cond (eqb p r) (someone (leave l)) (succeeded r h)))
+            (λ t. simp (eq-eqb p p refl) (sym e′, refl)) (λ q n t. absurd (n (leaver q t ∙ sym p·holder)));
+        latest = sorted-leave l (i .sorted);
+      }
 
   pub step-remembers :
       let r = stepped suc p (private p) (sh (looksAt p (private p))) lock in
