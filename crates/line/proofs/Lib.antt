@@ -22,3 +22,8 @@ pub mod Wrap
 pub mod WrapCalls
 pub mod Counted
 pub mod Modular
+pub mod Lists
+pub mod Joiners
+pub mod OneFound
+pub mod Remembering
+pub mod Consequences
