@@ -1,7 +1,7 @@
 -- A conjunction of tests, as code makes it: `if !first(..) { return false; } .. last(..)`, and a test as code says it.
 -- Assumes nothing.
 use mathlib.Core.Path.{_≡_, refl, sym, _∙_, ap}
-use mathlib.Core.Bool.{Bool, true, false, not, _&&_}
+use mathlib.Core.Bool.{Bool, true, false, cond, not, _&&_}
 use borrow.Author.Tests.{eq-eqb, ne-eqb, le-leb, lt-leb, lt-ltb, le-ltb, not-true, not-false}
 
 -- one that is false makes it false
@@ -27,3 +27,16 @@ pub turned : (a b : Bool) → b ≡ a → a ≡ b
 turned a b e = sym e
 
 pub ruleset said = (turned, no-left, no-right, yes-then, said-no, said-yes, eq-eqb, ne-eqb, le-leb, lt-leb, lt-ltb, le-ltb)
+
+-- a choice by tests, as code makes it: `if first(..) { return x; } .. y`
+pub taken : {A : Type 0} (b : Bool) (x y z : A) → b ≡ true → z ≡ x → z ≡ cond b x y
+taken b x y z e same = same ∙ sym (ap (λ (t : Bool). cond t x y) e)
+
+pub passed : {A : Type 0} (b : Bool) (x y z : A) → b ≡ false → z ≡ y → z ≡ cond b x y
+passed b x y z e same = same ∙ sym (ap (λ (t : Bool). cond t x y) e)
+
+-- a callee that was asked, and its answer turned round
+pub said-not : (r a t : Bool) → r ≡ a → not r ≡ t → not a ≡ t
+said-not r a t e said = ap not (sym e) ∙ said
+
+pub ruleset choices = (taken, passed, said-not, said-no, said-yes, eq-eqb, ne-eqb, le-leb, lt-leb, lt-ltb, le-ltb)

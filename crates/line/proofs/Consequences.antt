@@ -12,7 +12,7 @@ use Rattle.stage.specs.Table.{Table, upd, idle, freshTable, begunAcquisition, b
 use Rattle.stage.specs.declared.Private.{Private}
 use Rattle.stage.specs.declared.Reply.{Reply}
 use Rattle.stage.specs.declared.Reply.the-variants.{Answered}
-use Rattle.line.specs.Corollaries.{OneOf, stepIn, stands, unlessSetUp, standing, releasing, ownSteps, leavesNow, succeeded, Corollaries}
+use Rattle.line.specs.Corollaries.{OneOf, stepIn, stands, unlessSetUp, standing, stepsNow, ownSteps, leavesNow, succeeded, Corollaries}
 use Rattle.line.specs.Demand3.{Found, Premise}
 use Rattle.line.specs.History.{Transcript, start, course, heard, accepted, machine, state, transcript}
 use Rattle.line.specs.PlainLine.{modules}
@@ -34,7 +34,7 @@ begins h private m p me′ away =
 accepted-remembers : (c : Call) (h : Transcript) {taken : List ℕ} (t : Table) → Kept (course h) taken t → Remembered h (t .private)
     → Remembered ((c, Answered (answered suc c t)) ∷ h) (after suc c t .private)
 unfolding answered after freshTable idle begunAcquisition begunRelease stepOf afterStep logTaken start course heard accepted
-    standing unlessSetUp stepIn stands ownSteps releasing succeeded leavesNow
+    standing unlessSetUp stepIn stands ownSteps stepsNow succeeded leavesNow
 accepted-remembers (setUp k) h t kept m = record { stood = none-stood; released = λ q. absurd; latest = tt }
 accepted-remembers (beginAcquisition p r) h t kept m = record { stood = m .stood; released = begins h (t .private) m p _ tt; latest = tt }
 accepted-remembers (beginRelease p) h t kept m = record { stood = m .stood; released = begins h (t .private) m p _ tt; latest = tt }
@@ -42,7 +42,7 @@ accepted-remembers (step p) h t kept m = step-remembers h (kept .inv) m p
 accepted-remembers (takeLog room) h t kept m = record { stood = m .stood; released = m .released; latest = tt }
 
 remembered : (fits : ℕ → Bool) (n : ℕ) (cs : List Call) → Remembered (transcript (machine suc fits) (freshTable n) cs) (state (machine suc fits) (freshTable n) cs .private)
-unfolding transcript state called course heard standing unlessSetUp stepIn stands ownSteps releasing succeeded leavesNow freshTable idle start
+unfolding transcript state called course heard standing unlessSetUp stepIn stands ownSteps stepsNow succeeded leavesNow freshTable idle start
 remembered fits n [] = record { stood = none-stood; released = λ q. absurd; latest = tt }
 remembered fits n (c ∷ cs) =
     let m = remembered fits n cs in

@@ -85,20 +85,12 @@ module _ (fits : ℕ → Bool) where
         logs = kept .logs ∙ ap (λ (z : List ℕ). z ++ pending (t .private) (o .line)) (sym (append-nil (l ++ t .log)));
       }
 
-  refused-taken : (c : Call) (k : ℕ) (held l : List ℕ) → takes c (Refused k) held l ≡ l
-  unfolding takes
-  refused-taken (setUp j) k held l = refl
-  refused-taken (beginAcquisition p r) k held l = refl
-  refused-taken (beginRelease p) k held l = refl
-  refused-taken (step p) k held l = refl
-  refused-taken (takeLog room) k held l = refl
-
   call-keeps : (c : Call) (o : Course) (l : List ℕ) (t : Table) → Kept o l t
       → Kept (heard c (called suc fits c t .0) o) (takes c (called suc fits c t .0) (t .log) l) (called suc fits c t .1)
-  unfolding called heard
+  unfolding called heard takes
   call-keeps c o l t kept =
       refused-or (λ (r : Reply × Table). Kept (heard c (r .0) o) (takes c (r .0) (t .log) l) (r .1)) (refusals suc fits c t) _ _
-      (λ k. subst⁻¹ (λ (z : List ℕ). Kept o z t) (refused-taken c k (t .log) l) kept) (accepted-keeps c o l t kept)
+      (λ k. kept) (accepted-keeps c o l t kept)
 
   -- the ideal machine, from a fresh table of n modules
   pub ideal-kept : (n : ℕ) (cs : List Call)

@@ -1,7 +1,7 @@
 -- Demand 3 of the machine that counts modulo m: while every swap comes fewer than m changes after its reading, it is the machine whose counts never wrap,
 -- with its counts reduced. Assumes nothing.
 use Prim.Native.Nat.{ℕ, suc, _+_, _%_, _≤_, _<_}
-use mathlib.Core.Path.{_≡_, refl, sym, _∙_, ap, subst, subst⁻¹, subst₃, fun-ext}
+use mathlib.Core.Path.{_≡_, refl, sym, _∙_, ap, subst, subst⁻¹, subst₃, fun-ext, transport⁻¹}
 use mathlib.Core.Bool.{Bool, true, false, cond}
 use mathlib.Core.List.{List, [], _∷_}
 use mathlib.Core.Logic.{_⊎_, inl, inr, ⊎-elim}
@@ -21,7 +21,7 @@ use Rattle.stage.specs.Table.{Table, idle, freshTable}
 use Rattle.stage.specs.declared.Private.{Private}
 use Rattle.stage.specs.declared.Reply.{Reply}
 use Rattle.stage.specs.declared.Shared.{Shared}
-use Rattle.line.specs.Demand3.{changed, reads, changesSince, InTime, Premise, Leads, leftOff, Holds, Demand3}
+use Rattle.line.specs.Demand3.{changed, reads, changesSince, InTime, Premise, Holds, Demand3}
 use Rattle.line.specs.History as History
 use Rattle.line.specs.History.{Course, takes, machine, state, transcript}
 use Rattle.line.proofs.Counted.{OneOn, readers, Still, Ongoing, links-on, still, Counts, counts-on}
@@ -29,6 +29,7 @@ use Rattle.line.proofs.Facts.{seeks-at}
 use Rattle.line.proofs.Holding.{kept-holds}
 use Rattle.line.proofs.Ideal.{Kept, ideal-kept}
 use Rattle.line.proofs.Invariant.{Read}
+use Rattle.line.proofs.OneFound.{found-wraps}
 use Rattle.line.proofs.Wrap.{wrapLink}
 use Rattle.line.proofs.WrapCalls.{wrap, Fair, fresh-wraps, call-wraps}
 
@@ -68,21 +69,11 @@ module _ (m : ℕ) (two : 1 < m) where
   reads-wraps q (step p) t = refl
   reads-wraps q (takeLog room) t = refl
 
-  leads-wraps : (t : Table) (q : ℕ) (l : List ℕ) → Leads t q l → Leads (wrap m t) q l
-  unfolding Leads
-  leads-wraps t q [] e = e
-  leads-wraps t q (x ∷ l) e = (e .0, e .1, leads-wraps t (t .shared x .link .pointer) l (e .2))
-
-  left-off-wraps : (t : Table) (l : List ℕ) → leftOff (wrap m t) l ≡ leftOff t l
-  unfolding leftOff
-  left-off-wraps t [] = refl
-  left-off-wraps t (x ∷ l) = refl
-
   -- what demand 3 says, it says without the counts
   holds-wraps : {t : Table} {o : Course} {l : List ℕ} → Holds t o l → Holds (wrap m t) o l
   holds-wraps {t} h =
       record {
-        found = (h .found .0, leads-wraps t (t .lock) (h .found .0) (h .found .1), left-off-wraps t (h .found .0) ∙ h .found .2);
+        found = transport⁻¹ (found-wraps t m _) (h .found);
         alone = h .alone;
         first = h .first;
         log = h .log;

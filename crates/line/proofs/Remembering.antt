@@ -10,7 +10,7 @@ use borrow.Author.Tests.{eqb-true, eq-eqb, ne-eqb}
 use native.Mathlib.Omega.{arith}
 use Rattle.laws.proofs.Cases.{choose}
 use Rattle.laws.proofs.Only.{only, among, disjoint, included}
-use Rattle.link.proofs.Same.{same-true}
+use Rattle.link.proofs.Comparing.{same-true}
 use Rattle.link.specs.Operations.{same, swapped, CLOSED}
 use Rattle.link.specs.declared.Link.{Link}
 use Rattle.stage.proofs.ByStage.{by-stage}
@@ -24,7 +24,7 @@ use Rattle.stage.specs.declared.Reply.the-variants.{Answered}
 use Rattle.stage.specs.declared.Shared.{Shared}
 use Rattle.stage.specs.declared.Stepped.{Stepped}
 use Rattle.line.specs.Corollaries as C
-use Rattle.line.specs.Corollaries.{Step, stepIn, stands, unlessSetUp, standing, releasing, ownSteps, someone, leavesNow, succeeded, without}
+use Rattle.line.specs.Corollaries.{Step, stepIn, stands, unlessSetUp, standing, stepsNow, ownSteps, someone, leavesNow, succeeded, without}
 use Rattle.line.specs.History.{Transcript, course, heard, accepted, stepping}
 use Rattle.line.specs.PlainLine.{Place, join, leave}
 use Rattle.line.proofs.Facts.{stands-at, seeks-at, holder-at, empty, free}
@@ -138,7 +138,7 @@ module _ (h : Transcript) {private : ℕ → Private} {sh : ℕ → Shared} {loc
 
   -- after its leave
   abbrev once : ℕ → ℕ
-  once q = cond (eqb p q) 1 (ownSteps q h)
+  once q = cond (eqb p q) 1 (cond (eqb p q) (ownSteps q h + 1) (ownSteps q h))
 
   leaves : private p .stage ≡ 14 → (me′ : Private) → me′ .stage ≡ 15
       → record {
@@ -161,7 +161,7 @@ module _ (h : Transcript) {private : ℕ → Private} {sh : ℕ → Shared} {loc
       let r = stepped suc p (private p) (sh (looksAt p (private p))) lock in
       Remembered ((step p, Answered (r .answer)) ∷ h) (upd private p (r .me))
   unfolding looksAt stepped find rows noStep row1 row2 row3 row4 row5 row6 row7 row8 after9 row9 row10 row11 row12 row14 row15 row16 row17 row18 swapped
-      course heard accepted stepping standing unlessSetUp stepIn stands ownSteps releasing succeeded leavesNow someone
+      course heard accepted stepping standing unlessSetUp stepIn stands ownSteps stepsNow succeeded leavesNow someone
   step-remembers =
       by-stage (λ k. private p .stage ≡ k → AfterStep (find rows k .row suc p me (sh (find rows k .looks p me)) lock))
       (λ e. calm _ (subst⁻¹ Away e tt))

@@ -13,7 +13,7 @@ use Rattle.stage.specs.declared.Event.the-variants.{Done, Waiting, Admitted, Jo
 use Rattle.stage.specs.declared.Reply.{Reply}
 use Rattle.stage.specs.declared.Reply.the-variants.{Refused, Answered}
 use Rattle.line.specs.Demand3.{Found}
-use Rattle.line.specs.History.{Desk, Transcript, course, table, transcript}
+use Rattle.line.specs.History.{Transcript, course}
 use Rattle.line.specs.PlainLine.{Place, modules}
 
 -- p is one of these
@@ -72,25 +72,10 @@ unfoldable pub standing : Transcript → List ℕ
 standing [] = []
 standing (x ∷ earlier) = unlessSetUp (x .0) (x .1) [] (stands (stepIn (x .0) (x .1)) (standing earlier))
 
--- p's own steps of its latest release: its leave is the first
-unfoldable pub releasing : ℕ → Step → ℕ → ℕ
-releasing p other k = k
-releasing p (stepped q Done) k = cond (eqb q p) (k + 1) k
-releasing p (stepped q Waiting) k = cond (eqb q p) (k + 1) k
-releasing p (stepped q (Admitted r)) k = cond (eqb q p) (k + 1) k
-releasing p (stepped q Joined) k = cond (eqb q p) (k + 1) k
-releasing p (stepped q Left) k = cond (eqb q p) 1 k
-releasing p (stepped q Finished) k = cond (eqb q p) (k + 1) k
-releasing p (stepped q (Taken j)) k = cond (eqb q p) (k + 1) k
-
-unfoldable pub ownSteps : ℕ → Transcript → ℕ
-ownSteps p [] = 0
-ownSteps p (x ∷ earlier) = releasing p (stepIn (x .0) (x .1)) (ownSteps p earlier)
-
--- whether there was a successor: somebody was in the line just after p's latest leave
-unfoldable pub someone : List Place → Bool
-someone [] = false
-someone (x ∷ others) = true
+-- the step is p's, and it is p's leave
+unfoldable pub stepsNow : ℕ → Step → Bool
+stepsNow p other = false
+stepsNow p (stepped q e) = eqb q p
 
 unfoldable pub leavesNow : ℕ → Step → Bool
 leavesNow p other = false
@@ -101,6 +86,18 @@ leavesNow p (stepped q Joined) = false
 leavesNow p (stepped q Left) = eqb q p
 leavesNow p (stepped q Finished) = false
 leavesNow p (stepped q (Taken j)) = false
+
+-- p's own steps of its latest release: its leave is the first
+unfoldable pub ownSteps : ℕ → Transcript → ℕ
+ownSteps p [] = 0
+ownSteps p (x ∷ earlier) =
+    cond (leavesNow p (stepIn (x .0) (x .1))) 1
+    (cond (stepsNow p (stepIn (x .0) (x .1))) (ownSteps p earlier + 1) (ownSteps p earlier))
+
+-- whether there was a successor: somebody was in the line just after p's latest leave
+unfoldable pub someone : List Place → Bool
+someone [] = false
+someone (x ∷ others) = true
 
 unfoldable pub succeeded : ℕ → Transcript → Bool
 succeeded p [] = false
@@ -119,7 +116,7 @@ pub record Corollaries (h : Transcript) (t : Table) : Type 0 where
       (earlier : Transcript) (p : ℕ) → h ≡ (step p, Answered (answerOf Left)) ∷ earlier
       → (first : Place) (others : List Place) → course h .line ≡ first ∷ others
       → (x : Place) → InLine x others → x .priority ≤ first .priority
-  -- equals stand, and so are admitted, in the order of joining
+  -- equals stand in the order of joining; the log names the firsts, so they are admitted in it
   pub equals-in-order :
       (x y : Place) → InLine x (course h .line) → InLine y (course h .line) → x .priority ≡ y .priority
       → Ahead (x .module·) (y .module·) (standing h) → Ahead (x .module·) (y .module·) (modules (course h .line))

@@ -1,14 +1,14 @@
 -- Demand 3 of the minutes, item 4, of a history of calls on a desk; document 01 has its words "found from the lock word", "inside" and "the log".
-use Prim.Native.Nat.{ℕ, zero, suc, _+_, _<_}
+use Prim.Native.Nat.{ℕ, _+_, _<_}
 use mathlib.Core.Path.{_≡_}
-use mathlib.Core.Bool.{Bool, true, false, cond, not, _&&_, _||_}
+use mathlib.Core.Bool.{Bool, false, cond, _&&_, _||_}
 use mathlib.Core.List.{List, [], _∷_, _++_}
 use mathlib.Core.Logic.{_⊎_, _≢_}
 use lib.Dec.{eqb}
 use Rattle.link.specs.Operations.{same}
 use Rattle.stage.specs.Calls.{Call, setUp, beginAcquisition, beginRelease, step, takeLog}
 use Rattle.stage.specs.Table.{Table}
-use Rattle.line.specs.PlainLine.{Place, modules}
+use Rattle.line.specs.PlainLine.{modules}
 use Rattle.line.specs.History.{Desk, Course, course, table, transcript, taken}
 
 -- The premise: "where no link changes 65,536 times or more between one module's reading of it and its swap".

@@ -1,4 +1,4 @@
--- The answer of a step: its number is that of its event, and whoever is (record { number = refl; itself = refl }) is the module that steps. Assumes nothing.
+-- The answer of a step: its number is that of its event, and whoever is admitted is the module that steps. Assumes nothing.
 use Prim.Native.Nat.{ℕ, _≤_}
 use mathlib.Core.Path.{_≡_, refl}
 use mathlib.Core.Bool.{Bool}
