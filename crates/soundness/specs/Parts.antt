@@ -16,6 +16,11 @@ trailerRight b at n = eqb (byte b (at + 1)) 1 && eqb (two b (at + 6)) 0 && eqb (
 unfoldable pub logRight : List ℕ → ℕ → ℕ → Bool
 logRight b n held = each (within 1 n) (take held (drop (logAt b) b)) && each (eqb 0) (drop held (take capacity (drop (logAt b) b)))
 
+-- f holds of 0 to k - 1
+unfoldable pub below : ℕ → (ℕ → Bool) → Bool
+below zero f = true
+below (suc k) f = below k f && f k
+
 unfoldable pub recordRight : List ℕ → ℕ → ℕ → Bool
 recordRight b n at = soundZeros b at && soundPrivate n (privateAt b at) && soundShared n (sharedAt b at)
 

@@ -1,18 +1,168 @@
 // Whether an image of edition 1 is sound.
-use link::Link;
-use stage::Private;
-use stage::Shared;
 ghost use mathlib.Core.Path.{_≡_};
 ghost use mathlib.Core.Bool.{_&&_};
-ghost use Prim.Native.Nat.{_+_, _-_, _*_, _<_, _≤_};
+ghost use Prim.Native.Nat.{_+_, _-_, _*_, _<_, _≤_, max};
 ghost use lib.Dec.{eqb, leb};
-ghost use lib.ListN.{length, take, drop};
+ghost use lib.ListN.{length, take, drop, getD};
 ghost use Rattle.stage.specs.Calls.{within};
 ghost use Rattle.stage.specs.Sound.{every, each, soundPrivate, soundShared};
 ghost use Rattle.layout.specs.Layout as Layout;
 ghost use Rattle.layout.specs.Layout.{byte, privateAt, sharedAt};
 ghost use Rattle.soundness.specs.SoundImage as SoundImage;
-ghost use Rattle.soundness.specs.Parts.{trailerRight, logRight, recordRight, contentRight};
+ghost use Rattle.soundness.specs.Parts.{below, trailerRight, logRight, recordRight, contentRight};
+
+const LEAST: [u8; 80] = [
+    0,
+    0,
+    0,
+    0,
+    0,
+    0,
+    0,
+    0,
+    0,
+    0,
+    0,
+    0,
+    0,
+    0,
+    0,
+    0,
+    0,
+    1,
+    0,
+    0,
+    0,
+    0,
+    0,
+    0,
+    0,
+    0,
+    0,
+    0,
+    0,
+    0,
+    0,
+    0,
+    0,
+    1,
+    1,
+    0,
+    0,
+    0,
+    0,
+    0,
+    0,
+    0,
+    0,
+    0,
+    0,
+    0,
+    0,
+    0,
+    0,
+    1,
+    1,
+    1,
+    0,
+    0,
+    0,
+    0,
+    0,
+    0,
+    0,
+    0,
+    0,
+    0,
+    0,
+    0,
+    0,
+    1,
+    0,
+    0,
+    0,
+    0,
+    0,
+    0,
+    0,
+    0,
+    0,
+    0,
+    0,
+    0,
+    1,
+    0,
+];
+
+const ROWS: [u8; 32] = [
+    0,
+    16,
+    16,
+    16,
+    32,
+    32,
+    32,
+    48,
+    32,
+    32,
+    32,
+    16,
+    16,
+    16,
+    16,
+    16,
+    16,
+    64,
+    64,
+    16,
+    16,
+    16,
+    16,
+    16,
+    16,
+    16,
+    16,
+    16,
+    16,
+    16,
+    16,
+    16,
+];
+
+const CAPS: [u8; 32] = [
+    0,
+    16,
+    16,
+    16,
+    16,
+    16,
+    16,
+    16,
+    16,
+    16,
+    16,
+    16,
+    16,
+    16,
+    16,
+    16,
+    16,
+    16,
+    16,
+    16,
+    16,
+    16,
+    16,
+    16,
+    16,
+    16,
+    16,
+    16,
+    16,
+    16,
+    16,
+    16,
+];
 
 fn wide(x: u8) -> usize
     ensures { λ r. ⌜ (r ≡ x) × (r < 256) ⌝ }
@@ -73,63 +223,39 @@ fn sound_log(image: &[u8], n: u8, held: usize) -> bool
     all_within(0, 0, &log[held..256])
 }
 
-fn private_at(image: &[u8], at: usize) -> Private
-    requires { ⌜ at + 16 ≤ length (now image) ⌝ }
-    ensures { λ r. ⌜ r ≡ privateAt (now (image .entry)) at ⌝ }
+// How far x lies above y.
+fn above(x: u8, y: u8) -> u8
+    ensures { λ r. ⌜ r ≡ x - y ⌝ }
 {
-    Private {
-        stage: image[at],
-        own: image[at + 1],
-        prev: image[at + 2],
-        w: Link {
-            pointer: image[at + 3],
-            mark: image[at + 4],
-            count: two(image, at + 6) as u16,
-        },
-        s: image[at + 14],
-    }
+    if x > y { x - y } else { 0 }
 }
 
-fn shared_at(image: &[u8], at: usize) -> Shared
-    requires { ⌜ at + 16 ≤ length (now image) ⌝ }
-    ensures { λ r. ⌜ r ≡ sharedAt (now (image .entry)) at ⌝ }
+fn greater(x: u8, y: u8) -> u8
+    ensures { λ r. ⌜ r ≡ max x y ⌝ }
 {
-    Shared {
-        link: Link {
-            pointer: image[at + 8],
-            mark: image[at + 9],
-            count: two(image, at + 10) as u16,
-        },
-        priority: image[at + 12],
-        locked: image[at + 13],
-    }
+    if x > y { x } else { y }
 }
 
-fn sound_record(image: &[u8], at: usize, n: u8) -> bool
-    requires { ⌜ at + 16 ≤ length (now image) ⌝ }
-    ensures { λ r. ⌜ r ≡ recordRight (now (image .entry)) n at ⌝ }
+fn worse(
+    mut bad: [u8; 16],
+    image: &[u8],
+    at: usize,
+    least: &[u8; 80],
+    row: usize,
+    greatest: &[u8; 32],
+    cap: usize,
+) -> [u8; 16]
+    requires { ⌜ (at + 16 ≤ length (now image)) × (row ≤ 64) × (cap ≤ 16) ⌝ }
+    ensures { λ r. ⌜ each (within 0 0) r ≡ (each (within 0 0) bad && below 16 (λ k. within (getD (now (least .entry)) (row + k) 0) (getD (now (greatest .entry)) (cap + k) 0) (byte (now (image .entry)) (at + k)))) ⌝ }
 {
-    if image[at + 5] != 0 {
-        return false;
+    for k in 0..16 {
+        let x = image[at + k];
+        bad[k] = greater(
+            bad[k],
+            greater(above(least[row + k], x), above(x, greatest[cap + k])),
+        );
     }
-    if image[at + 15] != 0 {
-        return false;
-    }
-    if !stage::sound_private(n, private_at(image, at)) {
-        return false;
-    }
-    stage::sound_shared(n, shared_at(image, at))
-}
-
-fn sound_records(image: &[u8], first: usize, n: u8) -> bool
-    requires { ⌜ first + 16 * n ≤ length (now image) ⌝ }
-    ensures { λ r. ⌜ r ≡ every n (λ p. recordRight (now (image .entry)) n (first + 16 * (p - 1))) ⌝ }
-{
-    let mut ok = true;
-    for p in 0..wide(n) {
-        ok = ok & sound_record(image, first + 16 * p, n);
-    }
-    ok
+    bad
 }
 
 // Whether log and records are sound.
@@ -137,10 +263,63 @@ fn sound_content(image: &[u8], n: usize, held: usize) -> bool
     requires { ⌜ (16 * n + 268 ≤ length (now image)) × (n ≤ 64) × (held ≤ 256) ⌝ }
     ensures { λ r. ⌜ r ≡ contentRight (now (image .entry)) n held ⌝ }
 {
-    if !sound_log(image, n as u8, held) {
+    let last = n as u8;
+    let least = LEAST;
+    let rows = ROWS;
+    let caps = CAPS;
+    let greatest = [
+        18,
+        0,
+        last,
+        last,
+        1,
+        0,
+        255,
+        255,
+        last,
+        1,
+        255,
+        255,
+        255,
+        1,
+        last,
+        0,
+        18,
+        254,
+        last,
+        last,
+        1,
+        0,
+        255,
+        255,
+        last,
+        1,
+        255,
+        255,
+        255,
+        1,
+        last,
+        0,
+    ];
+    if !sound_log(image, last, held) {
         return false;
     }
-    sound_records(image, image.len() - (16 * n + 268), n as u8)
+    let first = image.len() - (16 * n + 268);
+    let mut bad = [0; 16];
+    for p in 0..n {
+        let at = first + 16 * p;
+        let stage = wide(image[at] % 32);
+        bad = worse(
+            bad,
+            image,
+            at,
+            &least,
+            wide(rows[stage]),
+            &greatest,
+            wide(caps[stage]),
+        );
+    }
+    all_within(0, 0, &bad)
 }
 
 // Whether the image is sound.
