@@ -2,167 +2,12 @@
 ghost use mathlib.Core.Path.{_≡_};
 ghost use mathlib.Core.Bool.{_&&_};
 ghost use Prim.Native.Nat.{_+_, _-_, _*_, _<_, _≤_, max};
-ghost use lib.Dec.{eqb, leb};
-ghost use lib.ListN.{length, take, drop, getD};
+ghost use lib.ListN.{length};
 ghost use Rattle.stage.specs.Calls.{within};
-ghost use Rattle.stage.specs.Sound.{every, each, soundPrivate, soundShared};
+ghost use Rattle.stage.specs.Sound.{each};
 ghost use Rattle.layout.specs.Layout as Layout;
-ghost use Rattle.layout.specs.Layout.{byte, privateAt, sharedAt};
 ghost use Rattle.soundness.specs.SoundImage as SoundImage;
-ghost use Rattle.soundness.specs.Parts.{below, trailerRight, logRight, recordRight, contentRight};
-
-const LEAST: [u8; 80] = [
-    0,
-    0,
-    0,
-    0,
-    0,
-    0,
-    0,
-    0,
-    0,
-    0,
-    0,
-    0,
-    0,
-    0,
-    0,
-    0,
-    0,
-    1,
-    0,
-    0,
-    0,
-    0,
-    0,
-    0,
-    0,
-    0,
-    0,
-    0,
-    0,
-    0,
-    0,
-    0,
-    0,
-    1,
-    1,
-    0,
-    0,
-    0,
-    0,
-    0,
-    0,
-    0,
-    0,
-    0,
-    0,
-    0,
-    0,
-    0,
-    0,
-    1,
-    1,
-    1,
-    0,
-    0,
-    0,
-    0,
-    0,
-    0,
-    0,
-    0,
-    0,
-    0,
-    0,
-    0,
-    0,
-    1,
-    0,
-    0,
-    0,
-    0,
-    0,
-    0,
-    0,
-    0,
-    0,
-    0,
-    0,
-    0,
-    1,
-    0,
-];
-
-const ROWS: [u8; 32] = [
-    0,
-    16,
-    16,
-    16,
-    32,
-    32,
-    32,
-    48,
-    32,
-    32,
-    32,
-    16,
-    16,
-    16,
-    16,
-    16,
-    16,
-    64,
-    64,
-    16,
-    16,
-    16,
-    16,
-    16,
-    16,
-    16,
-    16,
-    16,
-    16,
-    16,
-    16,
-    16,
-];
-
-const CAPS: [u8; 32] = [
-    0,
-    16,
-    16,
-    16,
-    16,
-    16,
-    16,
-    16,
-    16,
-    16,
-    16,
-    16,
-    16,
-    16,
-    16,
-    16,
-    16,
-    16,
-    16,
-    16,
-    16,
-    16,
-    16,
-    16,
-    16,
-    16,
-    16,
-    16,
-    16,
-    16,
-    16,
-    16,
-];
+ghost use Rattle.soundness.specs.Parts.{trailerRight, logRight, leastTable, greatestTable, leastRows, greatestRows, lanesRight, contentRight};
 
 fn wide(x: u8) -> usize
     ensures { λ r. ⌜ (r ≡ x) × (r < 256) ⌝ }
@@ -176,14 +21,6 @@ fn two(image: &[u8], at: usize) -> usize
     ensures { λ r. ⌜ (r ≡ Layout.two (now (image .entry)) at) × (r < 65536) ⌝ }
 {
     256 * wide(image[at]) + wide(image[at + 1])
-}
-
-// The number of four bytes, the greatest first.
-fn four(image: &[u8], at: usize) -> usize
-    requires { ⌜ at + 3 < length (now image) ⌝ }
-    ensures { λ r. ⌜ r ≡ Layout.four (now (image .entry)) at ⌝ }
-{
-    65536 * two(image, at) + two(image, at + 2)
 }
 
 // Whether every byte lies between the two.
@@ -205,7 +42,7 @@ fn sound_trailer(image: &[u8], at: usize, n: usize) -> bool
 {
     (image[at + 1] == 1)
         & (two(image, at + 6) == 0)
-        & (four(image, at + 8) == 16 * n + 256)
+        & (65536 * two(image, at + 8) + two(image, at + 10) == 16 * n + 256)
         & (1 <= n)
         & (wide(image[at]) <= n)
 }
@@ -217,10 +54,94 @@ fn sound_log(image: &[u8], n: u8, held: usize) -> bool
 {
     let at = image.len() - 268;
     let log = &image[at..at + 256];
-    if !all_within(1, n, &log[0..held]) {
-        return false;
-    }
-    all_within(0, 0, &log[held..256])
+    all_within(1, n, &log[0..held]) & all_within(0, 0, &log[held..256])
+}
+
+// The least that each byte of a record may be: a row of 16 for each kind of stage.
+fn least() -> [u8; 80]
+    ensures { λ r. ⌜ r ≡ leastTable ⌝ }
+{
+    let mut table = [0; 80];
+    // own priority, in every row but the first
+    table[17] = 1;
+    table[33] = 1;
+    table[49] = 1;
+    table[65] = 1;
+    // prev
+    table[34] = 1;
+    table[50] = 1;
+    // w's pointer
+    table[51] = 1;
+    // s
+    table[78] = 1;
+    table
+}
+
+// The greatest that each byte of a record may be: a row for stage 0, and one for every other.
+fn greatest(n: u8) -> [u8; 32]
+    ensures { λ r. ⌜ r ≡ greatestTable n ⌝ }
+{
+    [
+        18,
+        0,
+        n,
+        n,
+        1,
+        0,
+        255,
+        255,
+        n,
+        1,
+        255,
+        255,
+        255,
+        1,
+        n,
+        0,
+        18,
+        254,
+        n,
+        n,
+        1,
+        0,
+        255,
+        255,
+        n,
+        1,
+        255,
+        255,
+        255,
+        1,
+        n,
+        0,
+    ]
+}
+
+// Where the row of each stage starts among the leasts.
+fn least_rows() -> [u8; 32]
+    ensures { λ r. ⌜ r ≡ leastRows ⌝ }
+{
+    let mut table = [16; 32];
+    table[0] = 0;
+    table[4] = 32;
+    table[5] = 32;
+    table[6] = 32;
+    table[7] = 48;
+    table[8] = 32;
+    table[9] = 32;
+    table[10] = 32;
+    table[17] = 64;
+    table[18] = 64;
+    table
+}
+
+// Where the row of each stage starts among the greatests.
+fn greatest_rows() -> [u8; 32]
+    ensures { λ r. ⌜ r ≡ greatestRows ⌝ }
+{
+    let mut table = [16; 32];
+    table[0] = 0;
+    table
 }
 
 // How far x lies above y.
@@ -236,26 +157,27 @@ fn greater(x: u8, y: u8) -> u8
     if x > y { x } else { y }
 }
 
-fn worse(
-    mut bad: [u8; 16],
+// How far off the bytes are, with one more record: nowhere, if it was so before and each of the record's lies between its two.
+fn farther(
+    mut off: [u8; 16],
     image: &[u8],
     at: usize,
     least: &[u8; 80],
-    row: usize,
+    low: usize,
     greatest: &[u8; 32],
-    cap: usize,
+    high: usize,
 ) -> [u8; 16]
-    requires { ⌜ (at + 16 ≤ length (now image)) × (row ≤ 64) × (cap ≤ 16) ⌝ }
-    ensures { λ r. ⌜ each (within 0 0) r ≡ (each (within 0 0) bad && below 16 (λ k. within (getD (now (least .entry)) (row + k) 0) (getD (now (greatest .entry)) (cap + k) 0) (byte (now (image .entry)) (at + k)))) ⌝ }
+    requires { ⌜ (at + 16 ≤ length (now image)) × (low ≤ 64) × (high ≤ 16) ⌝ }
+    ensures { λ r. ⌜ each (within 0 0) r ≡ (each (within 0 0) off && lanesRight (now (image .entry)) at (now (least .entry)) low (now (greatest .entry)) high) ⌝ }
 {
     for k in 0..16 {
         let x = image[at + k];
-        bad[k] = greater(
-            bad[k],
-            greater(above(least[row + k], x), above(x, greatest[cap + k])),
+        off[k] = greater(
+            off[k],
+            greater(above(least[low + k], x), above(x, greatest[high + k])),
         );
     }
-    bad
+    off
 }
 
 // Whether log and records are sound.
@@ -263,63 +185,27 @@ fn sound_content(image: &[u8], n: usize, held: usize) -> bool
     requires { ⌜ (16 * n + 268 ≤ length (now image)) × (n ≤ 64) × (held ≤ 256) ⌝ }
     ensures { λ r. ⌜ r ≡ contentRight (now (image .entry)) n held ⌝ }
 {
-    let last = n as u8;
-    let least = LEAST;
-    let rows = ROWS;
-    let caps = CAPS;
-    let greatest = [
-        18,
-        0,
-        last,
-        last,
-        1,
-        0,
-        255,
-        255,
-        last,
-        1,
-        255,
-        255,
-        255,
-        1,
-        last,
-        0,
-        18,
-        254,
-        last,
-        last,
-        1,
-        0,
-        255,
-        255,
-        last,
-        1,
-        255,
-        255,
-        255,
-        1,
-        last,
-        0,
-    ];
-    if !sound_log(image, last, held) {
-        return false;
-    }
+    let least = least();
+    let greatest = greatest(n as u8);
+    let lows = least_rows();
+    let highs = greatest_rows();
+    let log = sound_log(image, n as u8, held);
     let first = image.len() - (16 * n + 268);
-    let mut bad = [0; 16];
+    let mut off = [0; 16];
     for p in 0..n {
         let at = first + 16 * p;
         let stage = wide(image[at] % 32);
-        bad = worse(
-            bad,
+        off = farther(
+            off,
             image,
             at,
             &least,
-            wide(rows[stage]),
+            wide(lows[stage]),
             &greatest,
-            wide(caps[stage]),
+            wide(highs[stage]),
         );
     }
-    all_within(0, 0, &bad)
+    log & all_within(0, 0, &off)
 }
 
 // Whether the image is sound.
