@@ -1,19 +1,19 @@
--- The record's bytes in 16 lanes.
+-- How far off the bytes of all records so far are, lane by lane: 0 in every lane if each byte lies between its least and its greatest.
 -- Assumes nothing.
-use Prim.Native.Nat.{ℕ, zero, suc, _+_, _-_, _*_, _%_, _<_, _≤_, max}
-use mathlib.Core.Path.{_≡_, refl, sym, _∙_, ap}
-use mathlib.Core.Bool.{Bool, true, false, cond, _&&_, and-assoc, and-comm, and-true}
-use mathlib.Core.List.{List, [], _∷_, _++_}
+use Prim.Native.Nat.{ℕ, zero, suc, _+_, _-_, _<_, _≤_, max}
+use mathlib.Core.Path.{_≡_, refl, sym, _∙_}
+use mathlib.Core.Bool.{Bool, true, false, _&&_, and-assoc}
+use mathlib.Core.List.{List, [], _∷_}
 use native.Mathlib.Nat.{le-of-suc-le-suc, not-suc-le-zero}
 use native.Mathlib.Numerals.{add-one}
 use native.Mathlib.Omega.{arith}
 use borrow.Author.Tests.{leb-true, leb-false, le-leb, lt-leb}
-use lib.Dec.{T, eqb, leb, leb·zero}
+use lib.Dec.{leb, leb·zero}
 use lib.ListN.{length, getD, set}
 use Rattle.stage.specs.Calls.{within}
 use Rattle.stage.specs.Sound.{each}
 use Rattle.soundness.specs.Parts.{below}
-use Rattle.soundness.proofs.Lists.{and-left-comm}
+use Rattle.soundness.proofs.Lists.{sorted}
 
 leb-sub : (a b : ℕ) → leb (a - b) 0 ≡ leb a b
 leb-sub a b = go (leb a b) refl
@@ -30,20 +30,21 @@ leb-max a b k = go (leb a k) (leb b k) refl refl
     go true false e f = lt-leb (max a b) k (let h : k < b = leb-false b k f in omega arith)
     go false u e f = lt-leb (max a b) k (let h : k < a = leb-false a k e in omega arith)
 
--- the worst of a lane is 0 where it was 0 and the byte lies between its least and its greatest
-worst : (a l x t : ℕ) → within 0 0 (max a (max (l - x) (x - t))) ≡ (within 0 0 a && within l t x)
-worst a l x t = simp (leb·zero, leb-max, leb-sub)
+-- a lane is at 0 if it was, and the byte lies between the two
+lane : (a low x high : ℕ) → within 0 0 (max a (max (low - x) (x - high))) ≡ (within 0 0 a && within low high x)
+lane a low x high = simp (leb·zero, leb-max, leb-sub)
 
--- one element gets worse
-set-worse : (f : ℕ → Bool) (l : List ℕ) (k v : ℕ) (g : Bool) → k < length l → f v ≡ (f (getD l k 0) && g) → each f (set l k v) ≡ (each f l && g)
+-- one element is set to a value that passes the test if the old one did and g holds
+set-and : (f : ℕ → Bool) (l : List ℕ) (k v : ℕ) (g : Bool) → k < length l → f v ≡ (f (getD l k 0) && g) → each f (set l k v) ≡ (each f l && g)
 unfolding each
-set-worse f [] k v g h e = absurd (not-suc-le-zero h)
-set-worse f (x ∷ l) zero v g h e = rw e (simp (and-assoc, and-comm, and-left-comm))
-set-worse f (x ∷ l) (suc k) v g h e = rw (set-worse f l k v g (le-of-suc-le-suc h) e) (sym (and-assoc (f x) (each f l) g))
+set-and f [] k v g h e = absurd (not-suc-le-zero h)
+set-and f (x ∷ l) zero v g h e = rw e (simp sorted)
+set-and f (x ∷ l) (suc k) v g h e = rw (set-and f l k v g (le-of-suc-le-suc h) e) (sym (and-assoc (f x) (each f l) g))
 
--- all so far, and one more
-pub lanes-more : (f : ℕ → Bool) (l l₀ : List ℕ) (k x lo hi v : ℕ) → each (within 0 0) l ≡ (each (within 0 0) l₀ && below k f) → k < length l
-    → f k ≡ within lo hi x → v ≡ max (getD l k 0) (max (lo - x) (x - hi)) → each (within 0 0) (set l k v) ≡ (each (within 0 0) l₀ && below (k + 1) f)
+-- all lanes so far, and one more
+pub lanes-more : (f : ℕ → Bool) (l l₀ : List ℕ) (k x low high v : ℕ) → each (within 0 0) l ≡ (each (within 0 0) l₀ && below k f) → k < length l
+    → f k ≡ within low high x → v ≡ max (getD l k 0) (max (low - x) (x - high)) → each (within 0 0) (set l k v) ≡ (each (within 0 0) l₀ && below (k + 1) f)
 unfolding below
-lanes-more f l l₀ k x lo hi v e h ef ev =
-    set-worse (within 0 0) l k v (f k) h (rw (ev, ef) (worst (getD l k 0) lo x hi)) ∙ rw (e, add-one) (and-assoc (each (within 0 0) l₀) (below k f) (f k))
+lanes-more f l l₀ k x low high v e h ef ev =
+    set-and (within 0 0) l k v (f k) h (rw (ev, ef) (lane (getD l k 0) low x high))
+    ∙ rw (e, add-one) (and-assoc (each (within 0 0) l₀) (below k f) (f k))

@@ -4,17 +4,27 @@ use Prim.Native.Nat.{ℕ, zero, suc, _+_, _<_, _≤_}
 use mathlib.Core.Path.{_≡_, refl, sym, _∙_, ap}
 use mathlib.Core.Bool.{Bool, true, false, _&&_, and-assoc, and-comm, and-true}
 use mathlib.Core.List.{List, [], _∷_}
-use native.Mathlib.Nat.{le-of-suc-le-suc, not-suc-le-zero, le-antisymm}
+use native.Mathlib.Nat.{le-of-suc-le-suc, not-suc-le-zero}
 use native.Mathlib.Omega.{arith}
 use native.Mathlib.Numerals.{add-one}
-use lib.ListN.{length, take, drop, getD}
+use lib.Dec.{eqb, leb·zero, leb·suc-zero, eqb·zero-suc, eqb·suc-zero}
+use lib.ListN.{length, take, getD}
 use lib.Seq.{take-all}
+use Rattle.stage.specs.Calls.{within}
 use Rattle.stage.specs.Sound.{every, each}
 
 pub and-left-comm : (a b c : Bool) → (a && (b && c)) ≡ (b && (a && c))
 and-left-comm true b c = refl
 and-left-comm false true c = refl
 and-left-comm false false c = refl
+
+-- two conjunctions of the same tests, sorted alike
+pub ruleset sorted = (and-assoc, and-comm, and-left-comm)
+
+-- between 0 and 0 is 0, whichever way round that is asked
+pub only-zero : (x : ℕ) → (within 0 0 x ≡ eqb 0 x) × (within 0 0 x ≡ eqb x 0)
+only-zero zero = (refl, refl)
+only-zero (suc x) = (rw (leb·zero, leb·suc-zero, eqb·zero-suc), rw (leb·zero, leb·suc-zero, eqb·suc-zero))
 
 module _ (f : ℕ → Bool) where
   more : (l : List ℕ) (i : ℕ) → i < length l → (each f (take i l) && f (getD l i 0)) ≡ each f (take (suc i) l)
@@ -29,25 +39,22 @@ module _ (f : ℕ → Bool) where
   pub each-all : (l : List ℕ) (i : ℕ) (ok : Bool) → ok ≡ each f (take i l) → length l ≤ i → ok ≡ each f l
   each-all l i ok e h = rw take-all at e
 
-pub each-same : (f g : ℕ → Bool) → ((x : ℕ) → f x ≡ g x) → (l : List ℕ) → each f l ≡ each g l
-unfolding each
-each-same f g e [] = refl
-each-same f g e (x ∷ l) = rw (e x, each-same f g e l)
+  pub every-more : (i : ℕ) (ok r : Bool) → ok ≡ every i f → r ≡ f (suc i) → (ok && r) ≡ every (i + 1) f
+  unfolding every
+  every-more i ok r e s = rw (e, s, add-one)
 
-pub every-more : (f : ℕ → Bool) (i : ℕ) (ok r : Bool) → ok ≡ every i f → r ≡ f (suc i) → (ok && r) ≡ every (i + 1) f
-unfolding every
-every-more f i ok r e s = rw (e, s, add-one)
+module _ (f g : ℕ → Bool) where
+  pub each-same : ((x : ℕ) → f x ≡ g x) → (l : List ℕ) → each f l ≡ each g l
+  unfolding each
+  each-same e [] = refl
+  each-same e (x ∷ l) = rw (e x, each-same e l)
 
-pub every-all : (f : ℕ → Bool) (i n : ℕ) (ok : Bool) → ok ≡ every i f → i ≤ n → n ≤ i → ok ≡ every n f
-every-all f i n ok e up down = e ∙ ap (λ (k : ℕ). every k f) (le-antisymm up down)
+  pub every-same : (n : ℕ) → ((p : ℕ) → 1 ≤ p → p ≤ n → f p ≡ g p) → every n f ≡ every n g
+  unfolding every
+  every-same zero same = refl
+  every-same (suc k) same = rw (every-same k (λ p low high. same p low (omega arith)), same (suc k) (omega arith) (omega arith))
 
-pub every-same : (f g : ℕ → Bool) (n : ℕ) → ((p : ℕ) → 1 ≤ p → p ≤ n → f p ≡ g p) → every n f ≡ every n g
-unfolding every
-every-same f g zero same = refl
-every-same f g (suc k) same =
-    rw (every-same f g k (λ p low high. same p low (omega arith)), same (suc k) (omega arith) (omega arith))
-
-pub every-and : (f g : ℕ → Bool) (n : ℕ) → every n (λ p. f p && g p) ≡ (every n f && every n g)
-unfolding every
-every-and f g zero = refl
-every-and f g (suc k) = rw (every-and f g k) (simp (and-assoc, and-comm, and-left-comm))
+  pub every-and : (n : ℕ) → every n (λ p. f p && g p) ≡ (every n f && every n g)
+  unfolding every
+  every-and zero = refl
+  every-and (suc k) = rw (every-and k) (simp sorted)

@@ -23,9 +23,12 @@ logRight b n held = each (within 1 n) (take held (drop (logAt b) b)) && each (eq
 unfoldable pub recordRight : List ℕ → ℕ → ℕ → Bool
 recordRight b n at = soundZeros b at && soundPrivate n (privateAt b at) && soundShared n (sharedAt b at)
 
--- log and records
+-- the first k records from a place on; and log and records
+unfoldable pub recordsRight : List ℕ → ℕ → ℕ → ℕ → Bool
+recordsRight b n first k = every k (λ p. recordRight b n (first + 16 * (p - 1)))
+
 unfoldable pub contentRight : List ℕ → ℕ → ℕ → Bool
-contentRight b n held = logRight b n held && every n (λ p. recordRight b n (length b - lengthFor n + 16 * (p - 1)))
+contentRight b n held = logRight b n held && recordsRight b n (length b - lengthFor n) n
 
 -- f holds of 0 to k - 1
 unfoldable pub below : ℕ → (ℕ → Bool) → Bool

@@ -1,4 +1,13 @@
-// Whether an image of edition 1 is sound.
+// Whether an image of edition 1 is sound: whether the bytes of a buffer are such that the other calls may work on them.
+//
+// An image is n records of 16 bytes, a log of 256 bytes and a trailer of 12, at the end of a buffer (01, "The image"). Which images are
+// sound is `SoundImage.sound`, 01's rules one by one, and `sound` answers exactly that, for any buffer whatever. Every call asks it
+// first, so it takes one pass over the bytes, and what it finds in log and records never makes it branch.
+//
+// A record is looked at in 16 lanes, a byte in each. A byte's place and the record's stage give it a least and a greatest, which two
+// small tables have. `off` keeps, for each place, how far any byte there lay outside of its two, and is asked once, at the end. The
+// compiler holds 16 lanes in one register only if it can do the same in all of them: so the rules are rows of numbers, looked up by the
+// stage, and are not written out byte by byte. That these rows are the rules is shown in proofs/Tables.antt.
 ghost use mathlib.Core.Path.{_≡_};
 ghost use mathlib.Core.Bool.{_&&_};
 ghost use Prim.Native.Nat.{_+_, _-_, _*_, _<_, _≤_, max};
@@ -9,6 +18,7 @@ ghost use Rattle.layout.specs.Layout as Layout;
 ghost use Rattle.soundness.specs.SoundImage as SoundImage;
 ghost use Rattle.soundness.specs.Parts.{trailerRight, logRight, leastTable, greatestTable, leastRows, greatestRows, lanesRight, contentRight};
 
+// A byte as a wider number.
 fn wide(x: u8) -> usize
     ensures { λ r. ⌜ (r ≡ x) × (r < 256) ⌝ }
 {
@@ -35,7 +45,7 @@ fn all_within(low: u8, high: u8, part: &[u8]) -> bool
     ok
 }
 
-// Whether the trailer that starts at a place has the right edition, zeros and distance, a module and a lock word.
+// Whether the trailer that starts at a place has the right edition, zeros and distance, at least one module, and a lock word from 0 to n.
 fn sound_trailer(image: &[u8], at: usize, n: usize) -> bool
     requires { ⌜ (at + 12 ≤ length (now image)) × (n < 65536) ⌝ }
     ensures { λ r. ⌜ r ≡ trailerRight (now (image .entry)) at n ⌝ }
@@ -47,7 +57,7 @@ fn sound_trailer(image: &[u8], at: usize, n: usize) -> bool
         & (wide(image[at]) <= n)
 }
 
-// Whether the held entries are modules and the rest of the log is zero.
+// Whether the log's held entries are 1 to n and the rest are 0.
 fn sound_log(image: &[u8], n: u8, held: usize) -> bool
     requires { ⌜ (268 ≤ length (now image)) × (held ≤ 256) ⌝ }
     ensures { λ r. ⌜ r ≡ logRight (now (image .entry)) n held ⌝ }
@@ -57,12 +67,13 @@ fn sound_log(image: &[u8], n: u8, held: usize) -> bool
     all_within(1, n, &log[0..held]) & all_within(0, 0, &log[held..256])
 }
 
-// The least that each byte of a record may be: a row of 16 for each kind of stage.
+// The least that each byte of a record may be, in five rows of 16: all may be 0; own priority isn't 0; nor is prev; nor w's pointer;
+// own priority and s aren't 0.
 fn least() -> [u8; 80]
     ensures { λ r. ⌜ r ≡ leastTable ⌝ }
 {
     let mut table = [0; 80];
-    // own priority, in every row but the first
+    // own priority
     table[17] = 1;
     table[33] = 1;
     table[49] = 1;
@@ -77,47 +88,7 @@ fn least() -> [u8; 80]
     table
 }
 
-// The greatest that each byte of a record may be: a row for stage 0, and one for every other.
-fn greatest(n: u8) -> [u8; 32]
-    ensures { λ r. ⌜ r ≡ greatestTable n ⌝ }
-{
-    [
-        18,
-        0,
-        n,
-        n,
-        1,
-        0,
-        255,
-        255,
-        n,
-        1,
-        255,
-        255,
-        255,
-        1,
-        n,
-        0,
-        18,
-        254,
-        n,
-        n,
-        1,
-        0,
-        255,
-        255,
-        n,
-        1,
-        255,
-        255,
-        255,
-        1,
-        n,
-        0,
-    ]
-}
-
-// Where the row of each stage starts among the leasts.
+// Where the row of each stage starts in `least`. There are 32 places so that any number's remainder by 32 has one.
 fn least_rows() -> [u8; 32]
     ensures { λ r. ⌜ r ≡ leastRows ⌝ }
 {
@@ -135,7 +106,41 @@ fn least_rows() -> [u8; 32]
     table
 }
 
-// Where the row of each stage starts among the greatests.
+// The greatest that each byte of a record may be, in two rows of 16: at stage 0, and at the others.
+fn greatest(n: u8) -> [u8; 32]
+    ensures { λ r. ⌜ r ≡ greatestTable n ⌝ }
+{
+    let mut table = [255; 32];
+    // stage and own priority
+    table[0] = 18;
+    table[1] = 0;
+    table[16] = 18;
+    table[17] = 254;
+    // prev, w's pointer, the link's pointer and s
+    table[2] = n;
+    table[3] = n;
+    table[8] = n;
+    table[14] = n;
+    table[18] = n;
+    table[19] = n;
+    table[24] = n;
+    table[30] = n;
+    // w's mark, the link's mark and Locked
+    table[4] = 1;
+    table[9] = 1;
+    table[13] = 1;
+    table[20] = 1;
+    table[25] = 1;
+    table[29] = 1;
+    // the zeros
+    table[5] = 0;
+    table[15] = 0;
+    table[21] = 0;
+    table[31] = 0;
+    table
+}
+
+// Where the row of each stage starts in `greatest`.
 fn greatest_rows() -> [u8; 32]
     ensures { λ r. ⌜ r ≡ greatestRows ⌝ }
 {
@@ -151,13 +156,14 @@ fn above(x: u8, y: u8) -> u8
     if x > y { x - y } else { 0 }
 }
 
+// The greater of the two.
 fn greater(x: u8, y: u8) -> u8
     ensures { λ r. ⌜ r ≡ max x y ⌝ }
 {
     if x > y { x } else { y }
 }
 
-// How far off the bytes are, with one more record: nowhere, if it was so before and each of the record's lies between its two.
+// How far off the bytes of all records are, with one more record. Nowhere, if so before and each of its bytes lies between its two.
 fn farther(
     mut off: [u8; 16],
     image: &[u8],
@@ -180,11 +186,12 @@ fn farther(
     off
 }
 
-// Whether log and records are sound.
+// Whether log and records are sound, in an image of n modules that holds so many log entries.
 fn sound_content(image: &[u8], n: usize, held: usize) -> bool
     requires { ⌜ (16 * n + 268 ≤ length (now image)) × (n ≤ 64) × (held ≤ 256) ⌝ }
     ensures { λ r. ⌜ r ≡ contentRight (now (image .entry)) n held ⌝ }
 {
+    // The tables are made before the log is looked at, so that they have reached memory when the records need them.
     let least = least();
     let greatest = greatest(n as u8);
     let lows = least_rows();
@@ -194,6 +201,7 @@ fn sound_content(image: &[u8], n: usize, held: usize) -> bool
     let mut off = [0; 16];
     for p in 0..n {
         let at = first + 16 * p;
+        // A number that is no stage fails in its own lane, whatever the row.
         let stage = wide(image[at] % 32);
         off = farther(
             off,

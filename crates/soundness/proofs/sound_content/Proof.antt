@@ -8,20 +8,20 @@ use borrow.Author.Needs.{needs}
 use lib.ListN.{length, getD}
 use Rattle.stage.specs.Calls.{within}
 use Rattle.stage.specs.Sound.{every, each}
-use Rattle.soundness.specs.Parts.{recordRight, contentRight, leastRows, greatestRows}
+use Rattle.soundness.specs.Parts.{recordsRight, contentRight, leastRows, greatestRows}
 use Rattle.soundness.proofs.Tables.{at-most, records-more}
 use Rattle.soundness.proofs.sound_content.Statement.{statement}
 use Rattle.soundness.proofs.sound_content.Tie as tie
 
 abbrev Inv-loop : tie.InvT-loop
 Inv-loop image n held least greatest lows highs log first off₀ p₀ off p =
-    (p ≤ n) × (each (within 0 0) off ≡ every p (λ q. recordRight image n (first + 16 * (q - 1)))) × (length off ≡ 16)
+    (p ≤ n) × (each (within 0 0) off ≡ recordsRight image n first p) × (length off ≡ 16)
 
 abbrev μ-loop : tie.MeasureT-loop
 μ-loop image n held least greatest lows highs log first off₀ p₀ off p = n - p
 
 loop-holds : tie.Need-loop-holds Inv-loop μ-loop
-unfolding every each
+unfolding every each recordsRight
 loop-holds c = (search needs, refl, refl)
 
 farther-requires : tie.Need-farther-requires Inv-loop μ-loop
@@ -35,7 +35,7 @@ farther-requires c κs = (
 loop-again : tie.Need-loop-again Inv-loop μ-loop
 loop-again c = (
   omega arith,
-  records-more _ _ _ _ _ _ _ _ _ _ _ _ _ (λ i. c .before .before .before .before .before .before .shared-slice-known2 .given i .fits)
+  records-more _ _ _ _ _ _ _ _ _ _ _ _ _ (c .before .before .before .before .before .before .shared-slice-known2 .given)
       (c .before .before .before .before .before .before .before .before .before .before .before .before .before .least .ensures) (c .before .before .before .before .before .before .before .before .before .before .before .before .greatest .ensures) (c .before .before .before .before .before .before .before .before .before .before .before .least-rows .ensures) (c .before .before .before .before .before .before .before .before .before .before .greatest-rows .ensures)
       (c .before .before .before .before .before .wide .ensures .0) (c .before .before .before .wide2 .ensures .0) (c .before .wide3 .ensures .0) (c .before .before .before .before .before .before .before .before .loop .inv .1) (c .farther .ensures),
   search needs,

@@ -2,7 +2,7 @@
 -- Assumes nothing.
 use mathlib.Core.Path.{refl}
 use borrow.Author.Needs.{needs}
-use Rattle.soundness.proofs.Steps.{log-is}
+use Rattle.soundness.proofs.Parts.{log-is}
 use Rattle.soundness.proofs.sound_log.Statement.{statement}
 use Rattle.soundness.proofs.sound_log.Tie as tie
 

@@ -1,7 +1,7 @@
 -- `sound_trailer` reads what `trailerRight` names.
 -- Assumes nothing.
 use borrow.Author.Needs.{needs}
-use Rattle.soundness.proofs.Steps.{trailer-is}
+use Rattle.soundness.proofs.Parts.{trailer-is}
 use Rattle.soundness.proofs.sound_trailer.Statement.{statement}
 use Rattle.soundness.proofs.sound_trailer.Tie as tie
 
