@@ -27,12 +27,13 @@ unfolding below
 loop-holds c = (search needs, search needs, sym (and-true _))
 
 loop-again : tie.Need-loop-again Inv-loop μ-loop
-loop-again c = (
-  omega arith,
-  simp length-set (omega arith),
-  lanes-more _ _ _ _ _ _ _ _ (c .before .before .before .before .before .before .before .before .loop .inv .2) (omega arith) refl
-      (c .greater2 .ensures ∙ ap (max _) (c .before .greater .ensures ∙ ap₂ max (c .before .before .before .before .above .ensures) (c .before .before .above2 .ensures))),
-)
+loop-again c =
+    let turn = c .before .before .before .before .before .before .before .before in
+    let inner = c .before .greater .ensures ∙ ap₂ max (c .before .before .before .before .above .ensures) (c .before .before .above2 .ensures) in (
+      omega arith,
+      simp length-set (omega arith),
+      lanes-more _ _ _ _ _ _ _ _ (turn .loop .inv .2) (omega arith) refl (c .greater2 .ensures ∙ ap (max _) inner),
+    )
 
 returns : tie.Need-returns Inv-loop μ-loop
 unfolding lanesRight

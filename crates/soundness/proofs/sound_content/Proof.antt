@@ -1,11 +1,11 @@
 -- `sound_content` makes the records' lanes one after the other: all so far, and one more.
 -- Assumes nothing.
-use Prim.Native.Nat.{_+_, _-_, _*_, _≤_}
+use Prim.Native.Nat.{_-_, _≤_}
 use mathlib.Core.Path.{_≡_, refl, _∙_, ap₂}
 use mathlib.Core.Bool.{_&&_}
 use native.Mathlib.Omega.{arith}
 use borrow.Author.Needs.{needs}
-use lib.ListN.{length, getD}
+use lib.ListN.{length}
 use Rattle.stage.specs.Calls.{within}
 use Rattle.stage.specs.Sound.{every, each}
 use Rattle.soundness.specs.Parts.{recordsRight, contentRight, leastRows, greatestRows}
@@ -26,26 +26,31 @@ loop-holds c = (search needs, refl, refl)
 
 farther-requires : tie.Need-farther-requires Inv-loop μ-loop
 unfolding each
-farther-requires c κs = (
-  omega arith,
-  at-most 64 leastRows _ _ _ tt (c .before .before .before .before .before .before .before .before .before .before .least-rows .ensures) (c .before .before .wide2 .ensures .0),
-  at-most 16 greatestRows _ _ _ tt (c .before .before .before .before .before .before .before .before .before .greatest-rows .ensures) (c .wide3 .ensures .0),
-)
+farther-requires c κs =
+    let tables = c .before .before .before .before .before .before .before .before .before in (
+      omega arith,
+      at-most 64 leastRows _ _ _ tt (tables .before .least-rows .ensures) (c .before .before .wide2 .ensures .0),
+      at-most 16 greatestRows _ _ _ tt (tables .greatest-rows .ensures) (c .wide3 .ensures .0),
+    )
 
 loop-again : tie.Need-loop-again Inv-loop μ-loop
-loop-again c = (
-  omega arith,
-  records-more _ _ _ _ _ _ _ _ _ _ _ _ _ (c .before .before .before .before .before .before .shared-slice-known2 .given)
-      (c .before .before .before .before .before .before .before .before .before .before .before .before .before .least .ensures) (c .before .before .before .before .before .before .before .before .before .before .before .before .greatest .ensures) (c .before .before .before .before .before .before .before .before .before .before .before .least-rows .ensures) (c .before .before .before .before .before .before .before .before .before .before .greatest-rows .ensures)
-      (c .before .before .before .before .before .wide .ensures .0) (c .before .before .before .wide2 .ensures .0) (c .before .wide3 .ensures .0) (c .before .before .before .before .before .before .before .before .loop .inv .1) (c .farther .ensures),
-  search needs,
-)
+loop-again c =
+    let turn = c .before .before .before .before .before .before .before .before in
+    let tables = turn .before .before in (
+      omega arith,
+      records-more _ _ _ _ _ _ _ _ _ _ _ _ _ (c .before .before .before .before .before .before .shared-slice-known2 .given)
+          (tables .before .before .before .least .ensures) (tables .before .before .greatest .ensures) (tables .before .least-rows .ensures) (tables .greatest-rows .ensures)
+          (c .before .before .before .before .before .wide .ensures .0) (c .before .before .before .wide2 .ensures .0) (c .before .wide3 .ensures .0)
+          (turn .loop .inv .1) (c .farther .ensures),
+      search needs,
+    )
 
 returns : tie.Need-returns Inv-loop μ-loop
 unfolding contentRight
 returns c =
-    let e : c .before .before .before .loop .p ≡ c .before .before .before .before .before .before .before .before .before .before .args .n = omega arith in
-    ap₂ _&&_ (c .before .before .before .before .sound-log .ensures) (c .all-within .ensures ∙ rw e at (c .before .before .before .loop .inv .1))
+    let turn = c .before .before .before in
+    let e : turn .loop .p ≡ turn .before .before .before .before .before .before .before .args .n = omega arith in
+    ap₂ _&&_ (turn .before .sound-log .ensures) (c .all-within .ensures ∙ rw e at (turn .loop .inv .1))
 
 pub sound-content-spec : {M : Type 1} → statement M
 sound-content-spec =

@@ -1,6 +1,5 @@
 -- `sound_log` asks two parts of the log: the held entries, and the rest.
 -- Assumes nothing.
-use mathlib.Core.Path.{refl}
 use borrow.Author.Needs.{needs}
 use Rattle.soundness.proofs.Parts.{log-is}
 use Rattle.soundness.proofs.sound_log.Statement.{statement}
