@@ -2,7 +2,7 @@
 //
 // An image is n records of 16 bytes, a log of 256 bytes and a trailer of 12, at the end of a buffer (01, "The image"). Which images are
 // sound is `SoundImage.sound`, 01's rules one by one, and `sound` answers exactly that, for any buffer whatever. Every call asks it
-// first, so it takes one pass over the bytes, and what it finds in log and records never makes it branch.
+// first, so it is written to be fast: one pass over the bytes and, compiled, no branch on what log and records hold.
 //
 // A record is looked at in 16 lanes, a byte in each. A byte's place and the record's stage give it a least and a greatest, which two
 // small tables have. `off` keeps, for each place, how far any byte there lay outside of its two, and is asked once, at the end. The
