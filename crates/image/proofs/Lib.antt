@@ -1,2 +1,7 @@
 pub mod Sound
 pub mod Looks
+pub mod Refusals
+pub mod Modules
+pub mod Events
+pub mod Stored
+pub mod Steps

@@ -32,8 +32,10 @@ every-one : (n : ℕ) (f : ℕ → Bool) → every n f ≡ true → (p : ℕ) �
 unfolding every
 every-one zero f e p least most = absurd (omega arith)
 every-one (suc k) f e p least most =
-    elim (ℕ-discrete p (suc k)) [ yes same ↦ subst (λ (j : ℕ). f j ≡ true) (sym same) (right (every k f) (f (suc k)) e)
-    | no other ↦ every-one k f (left (every k f) (f (suc k)) e) p least (omega arith) ]
+    elim (ℕ-discrete p (suc k)) [
+      | yes same ↦ subst (λ (j : ℕ). f j ≡ true) (sym same) (right (every k f) (f (suc k)) e)
+      | no other ↦ every-one k f (left (every k f) (f (suc k)) e) p least (omega arith)
+    ]
 
 all-zero : (l : List ℕ) → each (eqb 0) l ≡ true → l ≡ replicate (length l) 0
 unfolding each

@@ -3,17 +3,26 @@
 // 01, "What a call says". A call checks the image, refuses by the lowest number that applies, reads the parts that it needs, and
 // stores the bytes of the parts that it changes.
 use link::Link;
+use stage::Event;
 use stage::Private;
+use stage::Reply;
 use stage::Shared;
+use stage::Stepped;
 ghost use mathlib.Core.Path.{_≡_};
-ghost use mathlib.Core.Bool.{true};
-ghost use Prim.Native.Nat.{_+_, _≤_, _<_};
-ghost use lib.ListN.{length};
-ghost use Rattle.layout.specs.Layout.{two, privateAt, sharedAt};
+ghost use mathlib.Core.Bool.{true, false, _&&_};
+ghost use Prim.Native.Nat.{_+_, _-_, _*_, _^_, _≤_, _<_};
+ghost use lib.Dec.{leb};
+ghost use lib.ListN.{length, set};
+ghost use Rattle.link.specs.Count.{next, size};
+ghost use Rattle.layout.specs.Layout.{two, privateAt, sharedAt, read, put};
 ghost use Rattle.layout.proofs.Stores.{puts};
-ghost use Rattle.layout.proofs.Changes.{privateBytes, sharedBytes};
+ghost use Rattle.stage.specs.Calls as Calls;
+ghost use Rattle.stage.specs.Calls.{admits, capacity};
+ghost use Rattle.stage.specs.Table.{afterStep};
+ghost use Rattle.layout.proofs.Changes.{privateBytes, sharedBytes, lengthBytes};
 ghost use Rattle.soundness.specs.SoundImage.{sound};
-ghost use Rattle.image.specs.Inside.{Framed};
+ghost use Rattle.image.specs.Call.{Does};
+ghost use Rattle.image.specs.Inside.{Framed, IsModule, Finds, Looks, partsPut};
 
 // Where the parts of a sound image lie: its n, the places of record 1, of the log and of the trailer, and how many entries are held.
 struct Frame {
@@ -22,6 +31,26 @@ struct Frame {
     log: usize,
     trailer: usize,
     held: u16,
+}
+
+// A module of a sound image: the place of its record, and its private part.
+struct Module {
+    frame: Frame,
+    number: u8,
+    at: usize,
+    me: Private,
+}
+
+enum Found {
+    // The call is refused by this number.
+    Refused(u8),
+    Module(Module),
+}
+
+// A step, before it is stored: the place of the record that it looks at, and what it leaves.
+struct Looked {
+    at: usize,
+    stepped: Stepped,
 }
 
 fn wide(x: u8) -> u16
@@ -113,4 +142,140 @@ fn put_shared(image: &mut [u8], at: usize, its: Shared)
     image[at + 11] = (its.link.count % 256) as u8;
     image[at + 12] = its.priority;
     image[at + 13] = its.locked;
+}
+
+// Stores the log length in the trailer at a place.
+fn put_length(image: &mut [u8], at: usize, k: u16)
+    requires { ⌜ at + 12 ≤ length (now image) ⌝ }
+    ensures { λ r. ⌜ now (image .exit) ≡ puts (now (image .entry)) at (lengthBytes k) ⌝ }
+{
+    image[at + 4] = (k / 256) as u8;
+    image[at + 5] = (k % 256) as u8;
+}
+
+// The place of module p's record.
+fn place(first: usize, p: u8) -> usize
+    requires { ⌜ (1 ≤ p) × (first + 16 * p < 2 ^ 64) ⌝ }
+    ensures { λ r. ⌜ r ≡ first + 16 * (p - 1) ⌝ }
+{
+    first + 16 * (p as usize - 1)
+}
+
+// The module that a call names, or the refusal of an unsound image, or of a number that is no module's.
+fn find(image: &[u8], p: u32) -> Found
+    ensures { λ r. ⌜ Finds (now (image .entry)) p r ⌝ }
+{
+    if !soundness::sound(image) {
+        return Found::Refused(1);
+    }
+    let frame = frame_of(image);
+    let n = frame.n;
+    if p < 1 {
+        return Found::Refused(2);
+    }
+    if (n as u32) < p {
+        return Found::Refused(2);
+    }
+    let number = p as u8;
+    let at = place(frame.first, number);
+    Found::Module(Module {
+        frame,
+        number,
+        at,
+        me: private_at(image, at),
+    })
+}
+
+// A module's step, by value: its row on the one shared part that the row looks at.
+fn look(image: &[u8], m: Module) -> Looked
+    requires { ⌜ IsModule (now image) m ⌝ }
+    ensures { λ r. ⌜ Looks (now (image .entry)) m r ⌝ }
+{
+    let at = place(m.frame.first, stage::looks_at(m.me, m.number));
+    let trailer = m.frame.trailer;
+    Looked {
+        at,
+        stepped: stage::step(m.number, m.me, shared_at(image, at), image[trailer]),
+    }
+}
+
+// Whether the step would admit and the log holds 256.
+fn overfills(event: Event, held: u16) -> bool
+    ensures { λ r. ⌜ r ≡ (admits event && leb capacity held) ⌝ }
+{
+    match event {
+        Event::Admitted(_) => 256 <= held,
+        _ => false,
+    }
+}
+
+// Logs the admission of module p.
+fn admit(image: &mut [u8], frame: Frame, p: u8)
+    requires { ⌜ (frame .log + frame .held < length (now image)) × (frame .trailer + 12 ≤ length (now image)) × (frame .held < capacity) ⌝ }
+    ensures { λ r. ⌜ now (image .exit) ≡ puts (set (now (image .entry)) (frame .log + frame .held) p) (frame .trailer) (lengthBytes (frame .held + 1)) ⌝ }
+{
+    let at = frame.log + frame.held as usize;
+    image[at] = p;
+    put_length(image, frame.trailer, frame.held + 1);
+}
+
+// Stores the parts that a module's step leaves: its private part, the shared part that it looked at, and the lock word.
+fn put_parts(image: &mut [u8], m: Module, l: Looked)
+    requires { ⌜ Looks (now image) m l ⌝ }
+    ensures { λ r. ⌜ now (image .exit) ≡ partsPut (now (image .entry)) m l ⌝ }
+{
+    let s = l.stepped;
+    put_private(image, m.at, s.me);
+    put_shared(image, l.at, s.its);
+    let trailer = m.frame.trailer;
+    image[trailer] = s.lock;
+}
+
+// Stores all that a module's step leaves, its admission too.
+fn store(image: &mut [u8], m: Module, l: Looked)
+    requires { ⌜ Looks (now image) m l ⌝ }
+    requires { ⌜ (admits (l .stepped .answer .event) && leb capacity (m .frame .held)) ≡ false ⌝ }
+    ensures { λ r. ⌜ now (image .exit) ≡ put (afterStep (next size) (read (now (image .entry))) (m .number)) (now (image .entry)) ⌝ }
+{
+    put_parts(image, m, l);
+    let s = l.stepped;
+    let answer = s.answer;
+    let event = answer.event;
+    match event {
+        Event::Admitted(p) => admit(image, m.frame, p),
+        _ => {}
+    }
+}
+
+fn step_of(image: &mut [u8], m: Module) -> Reply
+    requires { ⌜ IsModule (now image) m ⌝ }
+    ensures { λ r. ⌜ Does (Calls.step (m .number)) (now (image .entry)) r (now (image .exit)) ⌝ }
+{
+    let stage = m.me.stage;
+    if stage == 0 {
+        return Reply::Refused(4);
+    }
+    if stage == 13 {
+        return Reply::Refused(4);
+    }
+    let l = look(image, m);
+    let s = l.stepped;
+    let answer = s.answer;
+    let event = answer.event;
+    if overfills(event, m.frame.held) {
+        return Reply::Refused(5);
+    }
+    store(image, m, l);
+    Reply::Answered(answer)
+}
+
+// One step of the module p.
+pub fn step(image: &mut [u8], p: u32) -> Reply
+    ensures { λ r. ⌜ Does (Calls.step p) (now (image .entry)) r (now (image .exit)) ⌝ }
+{
+    let found = find(image, p);
+    match found {
+        Found::Refused(k) => Reply::Refused(k),
+        Found::Module(m) => step_of(image, m),
+    }
 }

@@ -98,9 +98,12 @@ stored-records (suc k) t t′ p at es s place high =
         ∙ sym (puts-left 16 (recordsOf k t) (recordIn t (suc k)) at es (s .inside) (omega (arith, length-records k t)))
 
 -- a buffer has room for the image of a table
-pub record Room (t : Table) (b : List ℕ) : Type 0 where
-  pub fits : lengthFor (t .n) ≤ length b
-  pub held : length (t .log) ≤ capacity
+pub record Fits (n : ℕ) (log b : List ℕ) : Type 0 where
+  pub fits : lengthFor n ≤ length b
+  pub held : length log ≤ capacity
+
+abbrev pub Room : Table → List ℕ → Type 0
+Room t b = Fits (t .n) (t .log) b
 
 -- the owner's bytes
 abbrev before : Table → List ℕ → List ℕ

@@ -88,6 +88,10 @@ joined b first n {x} {y} {z} ex ey ez =
     ∙ ap (λ (l : List ℕ). take first b ++ l) (take-append-drop (n + capacity) rest)
     ∙ take-append-drop first b
 
+pub length-held : (b : List ℕ) → lengthFor (modules b) ≤ length b → held b ≤ capacity → length (read b .log) ≡ held b
+unfolding read
+length-held b fits few = length-take-le (held b) (drop (logAt b) b) (omega (arith, length-drop (logAt b) b))
+
 module _ (b : List ℕ) (w : Written b) where
   records-spelled : (k : ℕ) → k ≤ modules b → recordsOf k (read b) ≡ take (16 * k) (drop (firstAt b) b)
   unfolding recordsOf
@@ -105,22 +109,18 @@ module _ (b : List ℕ) (w : Written b) where
       ∙ sym (take-add (16 * k) 16 (drop (firstAt b) b))
       ∙ ap (λ (i : ℕ). take i (drop (firstAt b) b)) more
 
-  pub length-held : length (read b .log) ≡ held b
-  unfolding read
-  length-held = length-take-le (held b) (drop (logAt b) b) (omega (arith, length-drop (logAt b) b, w .heldFits, w .fits))
-
   log-spelled : logOf (read b .log) ≡ take capacity (drop (logAt b) b)
   unfolding logOf read
   log-spelled =
       ap₂ (λ (x y : List ℕ). x ++ y) (sym (take-take (held b) capacity (drop (logAt b) b) (w .heldFits)))
-      (ap (λ (k : ℕ). replicate (capacity - k) 0) length-held ∙ sym (w .rest))
+      (ap (λ (k : ℕ). replicate (capacity - k) 0) (length-held b (w .fits) (w .heldFits)) ∙ sym (w .rest))
       ∙ take-append-drop (held b) (take capacity (drop (logAt b) b))
 
   trailer-spelled : trailerOf (read b) ≡ drop (trailerAt b) b
   unfolding trailerOf read held
   trailer-spelled =
       let at : ℕ = trailerAt b in
-      let length-is : length (take (held b) (drop (logAt b) b)) ≡ two b (at + 4) = length-held in
+      let length-is : length (take (held b) (drop (logAt b) b)) ≡ two b (at + 4) = length-held b (w .fits) (w .heldFits) in
       let zeros : (0 ≡ byte b (at + 6)) × (0 ≡ byte b (at + 6 + 1)) = none b (w .bytes) (at + 6) (w .zeros) in
       let all : drop at b ≡ spell 12 (λ k. byte b (at + k)) =
       sym (take-all 12 (drop at b) (omega (arith, length-drop at b))) ∙ spelled 12 at b (omega (arith, w .fits)) in

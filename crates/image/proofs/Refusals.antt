@@ -1,0 +1,70 @@
+-- Which refusal is given, and what a call does where one is and where none is.
+-- Assumes nothing.
+use mathlib.Core.Path.{_≡_, refl, sym, _∙_, ap, ap₂}
+use mathlib.Core.Bool.{Bool, true, false, not, cond, _&&_}
+use mathlib.Core.List.{List, [], _∷_, _++_}
+use mathlib.Core.Option.{Option, none, some}
+use Prim.Native.Nat.{ℕ, _≤_, _<_}
+use borrow.Author.Tests.{le-leb, lt-leb}
+use lib.Dec.{leb}
+use Rattle.laws.proofs.Said.{no-right}
+use Rattle.link.specs.Count.{next, size}
+use Rattle.stage.specs.Calls.{Call, within, refusing, answered, after}
+use Rattle.stage.specs.declared.Reply.{Reply}
+use Rattle.stage.specs.declared.Reply.the-variants.{Refused, Answered}
+use Rattle.layout.specs.Layout.{modules, read, put}
+use Rattle.soundness.specs.SoundImage.{sound}
+use Rattle.image.specs.Call.{refused, reply, image, Does}
+use Rattle.image.specs.Inside.{given, unfound}
+
+-- all that a list of refusals says is the number given
+module _ {A : Type 0} (no·k : ℕ → A) (yes·a : A) where
+  abbrev by : Option ℕ → A
+  by none = yes·a
+  by (some k) = no·k k
+
+  by-given : (es : List (Bool × ℕ)) → refusing es no·k yes·a ≡ by (given es)
+  unfolding refusing given unfound
+  by-given [] = refl
+  by-given (e ∷ es) = here (e .0) (by-given es)
+    where
+      here : (t : Bool) → refusing es no·k yes·a ≡ by (given es) → cond t (no·k (e .1)) (refusing es no·k yes·a) ≡ by (cond t (some (e .1)) (given es))
+      here true rest = refl
+      here false rest = rest
+
+  chosen : (es : List (Bool × ℕ)) (o : Option ℕ) → given es ≡ o → refusing es no·k yes·a ≡ by o
+  chosen es o g = by-given es ∙ ap by g
+
+-- what a call does where it is refused, and where it is not
+module _ (c : Call) (b : List ℕ) where
+  pub refuses : (k : ℕ) → given (refused c b) ≡ some k → Does c b (Refused k) b
+  unfolding reply image
+  refuses k g = record { says = sym (chosen Refused _ (refused c b) (some k) g); leaves = sym (chosen (λ j. b) _ (refused c b) (some k) g) }
+
+  pub accepts : {r : Reply} {b′ : List ℕ} → given (refused c b) ≡ none → r ≡ Answered (answered (next size) c (read b)) → b′ ≡ put (after (next size) c (read b)) b → Does c b r b′
+  unfolding reply image
+  accepts g says leaves = record { says = says ∙ sym (chosen Refused _ (refused c b) none g); leaves = leaves ∙ sym (chosen (λ j. b) _ (refused c b) none g) }
+
+-- what every call that names a module asks
+module _ (b : List ℕ) (p : ℕ) where
+  pub unsound : sound b ≡ false → given (unfound b p) ≡ some 1
+  unfolding refusing given unfound
+  unsound no·b = simp no·b
+
+  pub below : sound b ≡ true → p < 1 → given (unfound b p) ≡ some 2
+  unfolding refusing given unfound
+  below is h = simp (is, lt-leb 1 p h)
+
+  pub above : sound b ≡ true → modules b < p → given (unfound b p) ≡ some 2
+  unfolding refusing given unfound
+  above is h = simp (is, no-right (leb 1 p) (leb p (modules b)) (lt-leb p (modules b) h))
+
+-- a call that names module p asks that, and then es
+module _ (c : Call) (b : List ℕ) (p : ℕ) (es : List (Bool × ℕ)) (asks : refused c b ≡ unfound b p ++ es) where
+  pub not-found : (k : ℕ) → given (unfound b p) ≡ some k → Does c b (Refused k) b
+  unfolding refusing given unfound
+  not-found k g = refuses c b k (ap given asks ∙ chosen some (given es) (unfound b p) (some k) g)
+
+  pub found : sound b ≡ true → 1 ≤ p → p ≤ modules b → given (refused c b) ≡ given es
+  unfolding refusing given unfound
+  found is least most = ap given asks ∙ simp (is, le-leb 1 p least, le-leb p (modules b) most)
