@@ -4,4 +4,4 @@ pub mod Refusals
 pub mod Modules
 pub mod Events
 pub mod Stored
-pub mod Steps
+pub mod Named

@@ -1,4 +1,4 @@
--- What a step stores is the image of the table after it.
+-- What a call stores, part after part, is the image of the table after it.
 -- Assumes nothing.
 use mathlib.Core.Path.{_≡_, refl, sym, _∙_, ap, ap₂}
 use mathlib.Core.Bool.{Bool, true, false, _&&_, false≢true}
@@ -8,36 +8,73 @@ use native.Mathlib.Omega.{arith}
 use lib.ListN.{length, set}
 use Rattle.link.specs.Count.{next, size}
 use Rattle.stage.specs.Calls.{admits, capacity}
-use Rattle.stage.specs.Rows.{looksAt}
-use Rattle.stage.specs.Table.{Table, logged, stepOf, afterStep}
+use Rattle.stage.specs.Rows.{goes, withOwn, withPriority, looksAt}
+use Rattle.stage.specs.Table.{Table, logged, begunAcquisition, begunRelease, afterStep}
 use Rattle.stage.specs.declared.Event.{Event}
 use Rattle.stage.specs.declared.Event.the-variants.{Done, Waiting, Admitted, Joined, Left, Finished, Taken}
 use Rattle.stage.specs.declared.Private.{Private}
 use Rattle.stage.specs.declared.Shared.{Shared}
 use Rattle.stage.specs.declared.Stepped.{Stepped}
-use Rattle.layout.specs.Layout.{byte, lengthFor, modules, held, trailerAt, logAt, recordAt, read, put}
+use Rattle.layout.specs.Layout.{byte, lengthFor, modules, held, trailerAt, logAt, recordAt, sharedAt, read, put}
 use Rattle.layout.proofs.Stores.{puts}
-use Rattle.layout.proofs.Changes.{withPrivate, withShared, withLock, withLog, privateBytes, sharedBytes, lengthBytes, Room, put-private, put-shared, put-lock, put-logged}
-use Rattle.layout.proofs.Rewritten.{Written, length-held, put-read}
+use Rattle.layout.proofs.Changes.{withPrivate, withShared, withLock, withLog, privateBytes, sharedBytes, lengthBytes, Room, placeIn, put-private, put-shared, put-lock, put-logged}
+use Rattle.layout.proofs.Rewritten.{shared-read, length-held, put-read}
+use Rattle.soundness.specs.SoundImage.{sound}
 use Rattle.image.specs.declared.Frame.{Frame}
 use Rattle.image.specs.declared.Module.{Module}
 use Rattle.image.specs.declared.Looked.{Looked}
 use Rattle.image.specs.Inside.{Framed, IsModule, Looks, partsPut}
-use Rattle.image.proofs.Sound.{written}
+use Rattle.image.proofs.Sound.{fits, held-fits, written}
 
-abbrev parts : Table → ℕ → ℕ → Private → Shared → ℕ → Table
-parts t p q me its lock = withLock (withShared (withPrivate t p me) q its) lock
+-- b₁ is the image of a table, and b₂ has one part more stored
+module _ (t : Table) (b : List ℕ) (room : Room t b) {b₁ b₂ : List ℕ} (so-far : b₁ ≡ put t b) where
+  then-private : {at : ℕ} (p : ℕ) (me : Private) → 1 ≤ p → p ≤ t .n → at ≡ placeIn t b p → b₂ ≡ puts b₁ at (privateBytes me) → b₂ ≡ put (withPrivate t p me) b
+  then-private p me least most place same = same ∙ ap₂ (λ (l : List ℕ) (i : ℕ). puts l i (privateBytes me)) so-far place ∙ sym (put-private t b room p me least most)
 
--- the three parts one after the other
-put-three : (t : Table) (b : List ℕ) (room : Room t b) (p q : ℕ) (me : Private) (its : Shared) (lock : ℕ) → 1 ≤ p → p ≤ t .n → 1 ≤ q → q ≤ t .n →
-    put (parts t p q me its lock) b
-    ≡ set (puts (puts (put t b) (length b - lengthFor (t .n) + 16 * (p - 1)) (privateBytes me)) (length b - lengthFor (t .n) + 16 * (q - 1)) (sharedBytes its)) (length b - 12) lock
-put-three t b room p q me its lock p-least p-most q-least q-most =
-    let t₁ : Table = withPrivate t p me in
-    put-lock (withShared t₁ q its) b room lock
-    ∙ ap (λ (l : List ℕ). set l (length b - 12) lock)
-    (put-shared t₁ b room q its q-least q-most
-    ∙ ap (λ (l : List ℕ). puts l (length b - lengthFor (t .n) + 16 * (q - 1)) (sharedBytes its)) (put-private t b room p me p-least p-most))
+  then-shared : {at : ℕ} (p : ℕ) (its : Shared) → 1 ≤ p → p ≤ t .n → at ≡ placeIn t b p → b₂ ≡ puts b₁ at (sharedBytes its) → b₂ ≡ put (withShared t p its) b
+  then-shared p its least most place same = same ∙ ap₂ (λ (l : List ℕ) (i : ℕ). puts l i (sharedBytes its)) so-far place ∙ sym (put-shared t b room p its least most)
+
+  then-lock : {at : ℕ} (k : ℕ) → at ≡ length b - 12 → b₂ ≡ set b₁ at k → b₂ ≡ put (withLock t k) b
+  then-lock k place same = same ∙ ap₂ (λ (l : List ℕ) (i : ℕ). set l i k) so-far place ∙ sym (put-lock t b room k)
+
+  then-logged : {log trailer entries : ℕ} (k : ℕ) → log ≡ length b - 268 → trailer ≡ length b - 12 → entries ≡ length (t .log) → entries < capacity →
+      b₂ ≡ puts (set b₁ (log + entries) k) trailer (lengthBytes (entries + 1)) → b₂ ≡ put (withLog t (t .log ++ k ∷ [])) b
+  then-logged {log} {trailer} {entries} k log-is trailer-is entries-are h same =
+      let there : puts (set b₁ (log + entries) k) trailer (lengthBytes (entries + 1)) ≡ puts (set (put t b) (length b - 268 + length (t .log)) k) (length b - 12) (lengthBytes (length (t .log) + 1)) =
+      λ i. puts (set (so-far i) (log-is i + entries-are i) k) (trailer-is i) (lengthBytes (entries-are i + 1)) in
+      same ∙ there ∙ sym (put-logged t b room k (omega arith))
+
+-- a sound image is the image of its table
+module _ (b : List ℕ) (is : sound b ≡ true) (bytes : (i : ℕ) → byte b i < 256) where
+  at-first : b ≡ put (read b) b
+  at-first = sym (put-read b (written b is bytes))
+
+  entries : length (read b .log) ≡ held b
+  entries = length-held b (fits b is) (held-fits b is)
+
+  room : Room (read b) b
+  unfolding read
+  room = record { fits = fits b is; held = omega (arith, entries, held-fits b is) }
+
+-- a module's call
+module _ (b : List ℕ) (m : Module) (is : IsModule b m) (bytes : (i : ℕ) → byte b i < 256) where
+  private-put : {b₁ : List ℕ} (me : Private) → b₁ ≡ puts b (m .at) (privateBytes me) → b₁ ≡ put (withPrivate (read b) (m .number) me) b
+  unfolding read
+  private-put me same = then-private (read b) b (room b (is .is) bytes) (at-first b (is .is) bytes) (m .number) me (is .least) (is .most) (is .at-is) same
+
+  pub release-begun : {b₁ : List ℕ} (me : Private) → me ≡ goes 14 (m .me) → b₁ ≡ puts b (m .at) (privateBytes me) → b₁ ≡ put (begunRelease (read b) (m .number)) b
+  unfolding begunRelease
+  release-begun me begun same =
+      private-put me same ∙ ap (λ (x : Private). put (withPrivate (read b) (m .number) x) b) (begun ∙ ap (λ (x : Private). goes 14 x) (is .me-is))
+
+  pub acquisition-begun : {b₁ b₂ : List ℕ} (r : ℕ) (me : Private) (old its : Shared) → me ≡ goes 1 (withOwn r (m .me)) → old ≡ sharedAt b (m .at) → its ≡ withPriority r old →
+      b₁ ≡ puts b (m .at) (privateBytes me) → b₂ ≡ puts b₁ (m .at) (sharedBytes its) → b₂ ≡ put (begunAcquisition (read b) (m .number) r) b
+  unfolding begunAcquisition read
+  acquisition-begun r me old its begun old-is its-is first second =
+      then-shared (withPrivate (read b) (m .number) me) b (room b (is .is) bytes) (private-put me first) (m .number) its (is .least) (is .most) (is .at-is) second
+      ∙ ap₂ (λ (x : Private) (y : Shared). put (withShared (withPrivate (read b) (m .number) x) (m .number) y) b)
+      (begun ∙ ap (λ (x : Private). goes 1 (withOwn r x)) (is .me-is))
+      (its-is ∙ ap (λ (x : Shared). withPriority r x) (old-is ∙ ap (sharedAt b) (is .at-is) ∙ sym (shared-read b (m .number) (is .least) (is .most))))
 
 kept : (log : List ℕ) (e : Event) → admits e ≡ false → logged log e ≡ log
 unfolding logged
@@ -49,48 +86,39 @@ kept log Left no·e = refl
 kept log Finished no·e = refl
 kept log (Taken k) no·e = refl
 
+-- a step
 module _ (b : List ℕ) (m : Module) (l : Looked) (looks : Looks b m l) (bytes : (i : ℕ) → byte b i < 256) where
-  back : Written b
-  back = written b (looks .is .is) bytes
-
-  room : Room (read b) b
-  unfolding read
-  room = record { fits = back .fits; held = omega (arith, length-held b (back .fits) (back .heldFits), back .heldFits) }
-
   -- the parts in the table
-  left : Table
-  left = parts (read b) (m .number) (looksAt (m .number) (m .me)) (l .stepped .me) (l .stepped .its) (l .stepped .lock)
+  parts : Private → Stepped → Table
+  parts me s = withLock (withShared (withPrivate (read b) (m .number) (s .me)) (looksAt (m .number) me) (s .its)) (s .lock)
 
-  parts-put : partsPut b m l ≡ put left b
-  unfolding partsPut left read
-  parts-put =
+  left : Table
+  left = parts (m .me) (l .stepped)
+
+  parts-put : {b₁ : List ℕ} → b₁ ≡ partsPut b m l → b₁ ≡ put left b
+  unfolding partsPut parts left read
+  parts-put same =
       let s : Stepped = l .stepped in
-      let there : partsPut b m l ≡ set (puts (puts (put (read b) b) (recordAt b (m .number)) (privateBytes (s .me))) (recordAt b (looksAt (m .number) (m .me))) (sharedBytes (s .its))) (trailerAt b) (s .lock) =
-      λ i. set (puts (puts (sym (put-read b back) i) (looks .is .at-is i) (privateBytes (s .me))) (looks .at-is i) (sharedBytes (s .its))) (looks .is .framed .trailer-is i) (s .lock) in
-      there ∙ sym (put-three (read b) b room (m .number) (looksAt (m .number) (m .me)) (s .me) (s .its) (s .lock) (looks .is .least) (looks .is .most) (looks .least) (looks .most))
+      let r : Room (read b) b = room b (looks .is .is) bytes in
+      let t : Table = withPrivate (read b) (m .number) (s .me) in
+      then-lock (withShared t (looksAt (m .number) (m .me)) (s .its)) b r
+      (then-shared t b r (private-put b m (looks .is) bytes (s .me) refl) (looksAt (m .number) (m .me)) (s .its) (looks .least) (looks .most) (looks .at-is) refl)
+      (s .lock) (looks .is .framed .trailer-is) same
 
   after-is : withLog left (logged (read b .log) (l .stepped .answer .event)) ≡ afterStep (next size) (read b) (m .number)
-  unfolding left afterStep
-  after-is =
-      ap₂ (λ (s : Stepped) (me : Private). withLog (parts (read b) (m .number) (looksAt (m .number) me) (s .me) (s .its) (s .lock)) (logged (read b .log) (s .answer .event)))
-      (looks .stepped-is) (looks .is .me-is)
+  unfolding parts left afterStep
+  after-is = ap₂ (λ (s : Stepped) (me : Private). withLog (parts me s) (logged (read b .log) (s .answer .event))) (looks .stepped-is) (looks .is .me-is)
 
   -- b₁ is the image with the parts stored, b₂ with the admission too
   pub kept-put : {b₁ : List ℕ} → b₁ ≡ partsPut b m l → admits (l .stepped .answer .event) ≡ false → b₁ ≡ put (afterStep (next size) (read b) (m .number)) b
-  unfolding left
-  kept-put first no·e = first ∙ parts-put ∙ ap (λ (log : List ℕ). put (withLog left log) b) (sym (kept (read b .log) _ no·e)) ∙ ap (λ (t : Table). put t b) after-is
+  unfolding parts left
+  kept-put first no·e = parts-put first ∙ ap (λ (log : List ℕ). put (withLog left log) b) (sym (kept (read b .log) _ no·e)) ∙ ap (λ (t : Table). put t b) after-is
 
   pub admitted-put : {b₁ b₂ : List ℕ} (k : ℕ) → b₁ ≡ partsPut b m l → b₂ ≡ puts (set b₁ (m .frame .log + m .frame .held) k) (m .frame .trailer) (lengthBytes (m .frame .held + 1)) →
       l .stepped .answer .event ≡ Admitted k → m .frame .held < capacity → b₂ ≡ put (afterStep (next size) (read b) (m .number)) b
-  unfolding left logged
-  admitted-put {b₁} k first second e h =
-      let f : Frame = m .frame in
-      let framed : Framed b f = looks .is .framed in
-      let entries : f .held ≡ length (read b .log) = framed .held-is ∙ sym (length-held b (back .fits) (back .heldFits)) in
-      let there : puts (set b₁ (f .log + f .held) k) (f .trailer) (lengthBytes (f .held + 1)) ≡ puts (set (put left b) (logAt b + length (read b .log)) k) (trailerAt b) (lengthBytes (length (read b .log) + 1)) =
-      λ i. puts (set ((first ∙ parts-put) i) (framed .log-is i + entries i) k) (framed .trailer-is i) (lengthBytes (entries i + 1)) in
-      second
-      ∙ there
-      ∙ sym (put-logged left b room k (omega arith))
+  unfolding parts left logged
+  admitted-put k first second e h =
+      let framed : Framed b (m .frame) = looks .is .framed in
+      then-logged left b (room b (looks .is .is) bytes) (parts-put first) k (framed .log-is) (framed .trailer-is) (framed .held-is ∙ sym (entries b (looks .is .is) bytes)) h second
       ∙ ap (λ (x : Event). put (withLog left (logged (read b .log) x)) b) (sym e)
       ∙ ap (λ (t : Table). put t b) after-is

@@ -3,6 +3,7 @@
 // 01, "What a call says". A call checks the image, refuses by the lowest number that applies, reads the parts that it needs, and
 // stores the bytes of the parts that it changes.
 use link::Link;
+use stage::Answer;
 use stage::Event;
 use stage::Private;
 use stage::Reply;
@@ -17,7 +18,7 @@ ghost use Rattle.link.specs.Count.{next, size};
 ghost use Rattle.layout.specs.Layout.{two, privateAt, sharedAt, read, put};
 ghost use Rattle.layout.proofs.Stores.{puts};
 ghost use Rattle.stage.specs.Calls as Calls;
-ghost use Rattle.stage.specs.Calls.{admits, capacity};
+ghost use Rattle.stage.specs.Calls.{beginAcquisition, beginRelease, admits, capacity};
 ghost use Rattle.stage.specs.Table.{afterStep};
 ghost use Rattle.layout.proofs.Changes.{privateBytes, sharedBytes, lengthBytes};
 ghost use Rattle.soundness.specs.SoundImage.{sound};
@@ -247,6 +248,39 @@ fn store(image: &mut [u8], m: Module, l: Looked)
     }
 }
 
+fn begin_acquisition_of(image: &mut [u8], m: Module, priority: u32) -> Reply
+    requires { ⌜ IsModule (now image) m ⌝ }
+    ensures { λ r. ⌜ Does (beginAcquisition (m .number) priority) (now (image .entry)) r (now (image .exit)) ⌝ }
+{
+    if priority < 1 {
+        return Reply::Refused(3);
+    }
+    if 254 < priority {
+        return Reply::Refused(3);
+    }
+    let stage = m.me.stage;
+    if stage != 0 {
+        return Reply::Refused(4);
+    }
+    let own = priority as u8;
+    let its = shared_at(image, m.at);
+    put_private(image, m.at, stage::begun_acquisition(m.me, own));
+    put_shared(image, m.at, stage::with_priority(its, own));
+    Reply::Answered(Answer::DONE)
+}
+
+fn begin_release_of(image: &mut [u8], m: Module) -> Reply
+    requires { ⌜ IsModule (now image) m ⌝ }
+    ensures { λ r. ⌜ Does (beginRelease (m .number)) (now (image .entry)) r (now (image .exit)) ⌝ }
+{
+    let stage = m.me.stage;
+    if stage != 13 {
+        return Reply::Refused(4);
+    }
+    put_private(image, m.at, stage::begun_release(m.me));
+    Reply::Answered(Answer::DONE)
+}
+
 fn step_of(image: &mut [u8], m: Module) -> Reply
     requires { ⌜ IsModule (now image) m ⌝ }
     ensures { λ r. ⌜ Does (Calls.step (m .number)) (now (image .entry)) r (now (image .exit)) ⌝ }
@@ -277,5 +311,27 @@ pub fn step(image: &mut [u8], p: u32) -> Reply
     match found {
         Found::Refused(k) => Reply::Refused(k),
         Found::Module(m) => step_of(image, m),
+    }
+}
+
+// Begins an acquisition by the module p, with a priority.
+pub fn begin_acquisition(image: &mut [u8], p: u32, priority: u32) -> Reply
+    ensures { λ r. ⌜ Does (beginAcquisition p priority) (now (image .entry)) r (now (image .exit)) ⌝ }
+{
+    let found = find(image, p);
+    match found {
+        Found::Refused(k) => Reply::Refused(k),
+        Found::Module(m) => begin_acquisition_of(image, m, priority),
+    }
+}
+
+// Begins a release by the module p.
+pub fn begin_release(image: &mut [u8], p: u32) -> Reply
+    ensures { λ r. ⌜ Does (beginRelease p) (now (image .entry)) r (now (image .exit)) ⌝ }
+{
+    let found = find(image, p);
+    match found {
+        Found::Refused(k) => Reply::Refused(k),
+        Found::Module(m) => begin_release_of(image, m),
     }
 }

@@ -105,6 +105,10 @@ pub record Fits (n : ℕ) (log b : List ℕ) : Type 0 where
 abbrev pub Room : Table → List ℕ → Type 0
 Room t b = Fits (t .n) (t .log) b
 
+-- where module p's record begins
+abbrev pub placeIn : Table → List ℕ → ℕ → ℕ
+placeIn t b p = length b - lengthFor (t .n) + 16 * (p - 1)
+
 -- the owner's bytes
 abbrev before : Table → List ℕ → List ℕ
 before t b = take (length b - lengthFor (t .n)) b
@@ -127,7 +131,7 @@ module _ (t : Table) (b : List ℕ) (room : Room t b) where
   -- some bytes of one record
   record-stored : (f : ℕ → Private) (g : ℕ → Shared) (p : ℕ) (es : Offsets) →
       Stored t (record { n = t .n; private = f; shared = g; lock = t .lock; log = t .log }) p es → 1 ≤ p → p ≤ t .n →
-      put (record { n = t .n; private = f; shared = g; lock = t .lock; log = t .log }) b ≡ puts (put t b) (length b - lengthFor (t .n) + 16 * (p - 1)) es
+      put (record { n = t .n; private = f; shared = g; lock = t .lock; log = t .log }) b ≡ puts (put t b) (placeIn t b p) es
   unfolding put write trailerOf
   record-stored f g p es s low high =
       let t′ : Table = record { n = t .n; private = f; shared = g; lock = t .lock; log = t .log } in
@@ -135,7 +139,7 @@ module _ (t : Table) (b : List ℕ) (room : Room t b) where
       ∙ sym (puts-first (before t b) (recordsOf (t .n) t) (logOf (t .log)) (trailerOf t) (16 * (p - 1)) 16 es (s .inside) (omega (arith, length-records (t .n) t)))
       ∙ ap (λ (k : ℕ). puts (put t b) (k + 16 * (p - 1)) es) (length-before t b room)
 
-  pub put-private : (p : ℕ) (me : Private) → 1 ≤ p → p ≤ t .n → put (withPrivate t p me) b ≡ puts (put t b) (length b - lengthFor (t .n) + 16 * (p - 1)) (privateBytes me)
+  pub put-private : (p : ℕ) (me : Private) → 1 ≤ p → p ≤ t .n → put (withPrivate t p me) b ≡ puts (put t b) (placeIn t b p) (privateBytes me)
   unfolding upd recordOf
   put-private p me =
       record-stored (upd (t .private) p me) (t .shared) p (privateBytes me)
@@ -145,7 +149,7 @@ module _ (t : Table) (b : List ℕ) (room : Room t b) where
         inside = tt;
       })
 
-  pub put-shared : (p : ℕ) (its : Shared) → 1 ≤ p → p ≤ t .n → put (withShared t p its) b ≡ puts (put t b) (length b - lengthFor (t .n) + 16 * (p - 1)) (sharedBytes its)
+  pub put-shared : (p : ℕ) (its : Shared) → 1 ≤ p → p ≤ t .n → put (withShared t p its) b ≡ puts (put t b) (placeIn t b p) (sharedBytes its)
   unfolding upd recordOf
   put-shared p its =
       record-stored (t .private) (upd (t .shared) p its) p (sharedBytes its)

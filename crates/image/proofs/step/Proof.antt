@@ -2,7 +2,7 @@ use borrow.Author.Needs.{needs}
 use Rattle.stage.specs.Calls
 use Rattle.image.proofs.Modules.{was-refused, was-found, by-number}
 use Rattle.image.proofs.Refusals.{not-found}
-use Rattle.image.proofs.Steps.{step-refused}
+use Rattle.image.proofs.Named.{step-refused}
 use Rattle.image.proofs.step.Statement.{statement}
 use Rattle.image.proofs.step.Tie as tie
 use Rattle.image.proofs.step.Reads as reads

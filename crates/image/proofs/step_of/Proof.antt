@@ -1,6 +1,6 @@
 use mathlib.Core.Path.{refl, sym, _∙_}
 use borrow.Author.Needs.{needs}
-use Rattle.image.proofs.Steps.{no-step, full, stepped}
+use Rattle.image.proofs.Named.{no-step, full, stepped}
 use Rattle.image.proofs.step_of.Statement.{statement}
 use Rattle.image.proofs.step_of.Tie as tie
 use Rattle.image.proofs.step_of.Reads as reads
