@@ -5,3 +5,5 @@ pub mod Modules
 pub mod Events
 pub mod Stored
 pub mod Named
+pub mod Copies
+pub mod Taken

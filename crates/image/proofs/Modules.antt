@@ -1,7 +1,6 @@
 -- A module that was found, and what its step looks at.
 -- Assumes nothing.
 use mathlib.Core.Path.{_≡_, refl, sym, _∙_, ap, ap₂, subst}
-use mathlib.Core.Bool.{true}
 use mathlib.Core.List.{List}
 use mathlib.Core.Option.{some}
 use Prim.Native.Nat.{ℕ, _+_, _-_, _*_, _≤_, _<_}
@@ -18,7 +17,6 @@ use Rattle.stage.specs.declared.Shared.{Shared}
 use Rattle.stage.specs.declared.Stepped.{Stepped}
 use Rattle.layout.specs.Layout.{modules, recordAt, privateAt, sharedAt, trailerAt, read, byte}
 use Rattle.layout.proofs.Rewritten.{private-read, shared-read}
-use Rattle.soundness.specs.SoundImage.{sound}
 use Rattle.image.specs.declared.Frame.{Frame}
 use Rattle.image.specs.declared.Module.{Module}
 use Rattle.image.specs.declared.Looked.{Looked}
@@ -29,12 +27,11 @@ use Rattle.image.specs.Inside.{Framed, IsModule, given, unfound, Finds, 
 use Rattle.image.proofs.Looks.{looks-within}
 use Rattle.image.proofs.Sound.{private-sound}
 
-pub is-module : (b : List ℕ) (f : Frame) (p at : ℕ) (me : Private) → sound b ≡ true → Framed b f → 1 ≤ p → p ≤ f .n → at ≡ f .first + 16 * (p - 1) → me ≡ privateAt b at → IsModule b (record { frame = f; number = p; at = at; me = me })
-is-module b f p at me is framed least most place same =
+pub is-module : (b : List ℕ) (f : Frame) (p at : ℕ) (me : Private) → Framed b f → 1 ≤ p → p ≤ f .n → at ≡ f .first + 16 * (p - 1) → me ≡ privateAt b at → IsModule b (record { frame = f; number = p; at = at; me = me })
+is-module b f p at me framed least most place same =
     let high : p ≤ modules b = omega arith in
     let there : at ≡ recordAt b p = omega arith in
     record {
-      is = is;
       framed = framed;
       least = least;
       most = high;
@@ -57,7 +54,7 @@ module _ (b : List ℕ) (p : ℕ) (r : Found) (finds : Finds b p r) where
 module _ (b : List ℕ) (m : Module) (is : IsModule b m) where
   -- the module that its step looks at
   pub seen : (1 ≤ looksAt (m .number) (m .me)) × (looksAt (m .number) (m .me) ≤ modules b)
-  seen = looks-within (modules b) (m .number) (m .me) (ap (λ (x : Private). soundPrivate (modules b) x) (is .me-is) ∙ private-sound b (is .is) (m .number) (is .least) (is .most)) (is .least) (is .most)
+  seen = looks-within (modules b) (m .number) (m .me) (ap (λ (x : Private). soundPrivate (modules b) x) (is .me-is) ∙ private-sound b (is .framed .is) (m .number) (is .least) (is .most)) (is .least) (is .most)
 
   pub looks : (q at : ℕ) (s : Stepped) → q ≡ looksAt (m .number) (m .me) → at ≡ m .frame .first + 16 * (q - 1) → s ≡ stepped (next size) (m .number) (m .me) (sharedAt b at) (byte b (m .frame .trailer)) →
       Looks b m (record { at = at; stepped = s })

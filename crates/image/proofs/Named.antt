@@ -60,7 +60,7 @@ module _ (b : List ℕ) (m : Module) (is : IsModule b m) where
   -- begin an acquisition
   module _ (r : ℕ) where
     acquisition-given : given (refused (beginAcquisition p r) b) ≡ given (acquisition-asks b p r)
-    acquisition-given = found (beginAcquisition p r) b p (acquisition-asks b p r) (acquisition-refused b p r) (is .is) (is .least) (is .most)
+    acquisition-given = found (beginAcquisition p r) b p (acquisition-asks b p r) (acquisition-refused b p r) (is .framed .is) (is .least) (is .most)
 
     pub priority-below : r < 1 → Does (beginAcquisition p r) b (Refused 3) b
     unfolding given refusing
@@ -81,7 +81,7 @@ module _ (b : List ℕ) (m : Module) (is : IsModule b m) where
 
   -- begin a release
   release-given : given (refused (beginRelease p) b) ≡ given (release-asks b p)
-  release-given = found (beginRelease p) b p (release-asks b p) (release-refused b p) (is .is) (is .least) (is .most)
+  release-given = found (beginRelease p) b p (release-asks b p) (release-refused b p) (is .framed .is) (is .least) (is .most)
 
   pub not-inside : (m .me .stage ≡ 13 → ⊥) → Does (beginRelease p) b (Refused 4) b
   unfolding given refusing
@@ -93,7 +93,7 @@ module _ (b : List ℕ) (m : Module) (is : IsModule b m) where
 
   -- take a step
   step-given : given (refused (step p) b) ≡ given (step-asks b p)
-  step-given = found (step p) b p (step-asks b p) (step-refused b p) (is .is) (is .least) (is .most)
+  step-given = found (step p) b p (step-asks b p) (step-refused b p) (is .framed .is) (is .least) (is .most)
 
   -- at 0 and 13 there is none
   pub no-step : (k : ℕ) → (eqb k 0 || eqb k 13) ≡ true → m .me .stage ≡ k → Does (step p) b (Refused 4) b

@@ -19,7 +19,7 @@ use Rattle.image.specs.Inside.{given, unfound}
 
 -- all that a list of refusals says is the number given
 module _ {A : Type 0} (no·k : ℕ → A) (yes·a : A) where
-  abbrev by : Option ℕ → A
+  abbrev pub by : Option ℕ → A
   by none = yes·a
   by (some k) = no·k k
 
@@ -32,7 +32,7 @@ module _ {A : Type 0} (no·k : ℕ → A) (yes·a : A) where
       here true rest = refl
       here false rest = rest
 
-  chosen : (es : List (Bool × ℕ)) (o : Option ℕ) → given es ≡ o → refusing es no·k yes·a ≡ by o
+  pub chosen : (es : List (Bool × ℕ)) (o : Option ℕ) → given es ≡ o → refusing es no·k yes·a ≡ by o
   chosen es o g = by-given es ∙ ap by g
 
 -- what a call does where it is refused, and where it is not

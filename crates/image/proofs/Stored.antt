@@ -6,18 +6,19 @@ use mathlib.Core.List.{List, [], _∷_, _++_}
 use Prim.Native.Nat.{ℕ, _+_, _-_, _*_, _≤_, _<_}
 use native.Mathlib.Omega.{arith}
 use lib.ListN.{length, set}
+use lib.Seq.{paste}
 use Rattle.link.specs.Count.{next, size}
 use Rattle.stage.specs.Calls.{admits, capacity}
 use Rattle.stage.specs.Rows.{goes, withOwn, withPriority, looksAt}
-use Rattle.stage.specs.Table.{Table, logged, begunAcquisition, begunRelease, afterStep}
+use Rattle.stage.specs.Table.{Table, logged, begunAcquisition, begunRelease, afterStep, logTaken}
 use Rattle.stage.specs.declared.Event.{Event}
 use Rattle.stage.specs.declared.Event.the-variants.{Done, Waiting, Admitted, Joined, Left, Finished, Taken}
 use Rattle.stage.specs.declared.Private.{Private}
 use Rattle.stage.specs.declared.Shared.{Shared}
 use Rattle.stage.specs.declared.Stepped.{Stepped}
-use Rattle.layout.specs.Layout.{byte, lengthFor, modules, held, trailerAt, logAt, recordAt, sharedAt, read, put}
+use Rattle.layout.specs.Layout.{byte, lengthFor, modules, held, trailerAt, logAt, recordAt, sharedAt, read, logOf, put}
 use Rattle.layout.proofs.Stores.{puts}
-use Rattle.layout.proofs.Changes.{withPrivate, withShared, withLock, withLog, privateBytes, sharedBytes, lengthBytes, Room, placeIn, put-private, put-shared, put-lock, put-logged}
+use Rattle.layout.proofs.Changes.{withPrivate, withShared, withLock, withLog, privateBytes, sharedBytes, lengthBytes, Room, placeIn, put-private, put-shared, put-lock, put-logged, put-taken}
 use Rattle.layout.proofs.Rewritten.{shared-read, length-held, put-read}
 use Rattle.soundness.specs.SoundImage.{sound}
 use Rattle.image.specs.declared.Frame.{Frame}
@@ -44,6 +45,12 @@ module _ (t : Table) (b : List ℕ) (room : Room t b) {b₁ b₂ : List ℕ} (so
       λ i. puts (set (so-far i) (log-is i + entries-are i) k) (trailer-is i) (lengthBytes (entries-are i + 1)) in
       same ∙ there ∙ sym (put-logged t b room k (omega arith))
 
+  then-taken : {zeros : List ℕ} {log trailer : ℕ} → log ≡ length b - 268 → trailer ≡ length b - 12 → zeros ≡ logOf [] → b₂ ≡ puts (paste b₁ log zeros capacity) trailer (lengthBytes 0) → b₂ ≡ put (withLog t []) b
+  then-taken {zeros} {log} {trailer} log-is trailer-is zero same =
+      let there : puts (paste b₁ log zeros capacity) trailer (lengthBytes 0) ≡ puts (paste (put t b) (length b - 268) (logOf []) capacity) (length b - 12) (lengthBytes 0) =
+      λ i. puts (paste (so-far i) (log-is i) (zero i) capacity) (trailer-is i) (lengthBytes 0) in
+      same ∙ there ∙ sym (put-taken t b room)
+
 -- a sound image is the image of its table
 module _ (b : List ℕ) (is : sound b ≡ true) (bytes : (i : ℕ) → byte b i < 256) where
   at-first : b ≡ put (read b) b
@@ -56,11 +63,16 @@ module _ (b : List ℕ) (is : sound b ≡ true) (bytes : (i : ℕ) → byte b i 
   unfolding read
   room = record { fits = fits b is; held = omega (arith, entries, held-fits b is) }
 
+  -- the log taken
+  pub log-cleared : {zeros b₁ b₂ : List ℕ} (f : Frame) → Framed b f → zeros ≡ logOf [] → b₁ ≡ paste b (f .log) zeros capacity → b₂ ≡ puts b₁ (f .trailer) (lengthBytes 0) → b₂ ≡ put (logTaken (read b)) b
+  unfolding logTaken
+  log-cleared f framed zero first second = then-taken (read b) b room at-first (framed .log-is) (framed .trailer-is) zero (second ∙ ap (λ (l : List ℕ). puts l (f .trailer) (lengthBytes 0)) first)
+
 -- a module's call
 module _ (b : List ℕ) (m : Module) (is : IsModule b m) (bytes : (i : ℕ) → byte b i < 256) where
   private-put : {b₁ : List ℕ} (me : Private) → b₁ ≡ puts b (m .at) (privateBytes me) → b₁ ≡ put (withPrivate (read b) (m .number) me) b
   unfolding read
-  private-put me same = then-private (read b) b (room b (is .is) bytes) (at-first b (is .is) bytes) (m .number) me (is .least) (is .most) (is .at-is) same
+  private-put me same = then-private (read b) b (room b (is .framed .is) bytes) (at-first b (is .framed .is) bytes) (m .number) me (is .least) (is .most) (is .at-is) same
 
   pub release-begun : {b₁ : List ℕ} (me : Private) → me ≡ goes 14 (m .me) → b₁ ≡ puts b (m .at) (privateBytes me) → b₁ ≡ put (begunRelease (read b) (m .number)) b
   unfolding begunRelease
@@ -71,7 +83,7 @@ module _ (b : List ℕ) (m : Module) (is : IsModule b m) (bytes : (i : ℕ) → 
       b₁ ≡ puts b (m .at) (privateBytes me) → b₂ ≡ puts b₁ (m .at) (sharedBytes its) → b₂ ≡ put (begunAcquisition (read b) (m .number) r) b
   unfolding begunAcquisition read
   acquisition-begun r me old its begun old-is its-is first second =
-      then-shared (withPrivate (read b) (m .number) me) b (room b (is .is) bytes) (private-put me first) (m .number) its (is .least) (is .most) (is .at-is) second
+      then-shared (withPrivate (read b) (m .number) me) b (room b (is .framed .is) bytes) (private-put me first) (m .number) its (is .least) (is .most) (is .at-is) second
       ∙ ap₂ (λ (x : Private) (y : Shared). put (withShared (withPrivate (read b) (m .number) x) (m .number) y) b)
       (begun ∙ ap (λ (x : Private). goes 1 (withOwn r x)) (is .me-is))
       (its-is ∙ ap (λ (x : Shared). withPriority r x) (old-is ∙ ap (sharedAt b) (is .at-is) ∙ sym (shared-read b (m .number) (is .least) (is .most))))
@@ -99,7 +111,7 @@ module _ (b : List ℕ) (m : Module) (l : Looked) (looks : Looks b m l) (bytes :
   unfolding partsPut parts left read
   parts-put same =
       let s : Stepped = l .stepped in
-      let r : Room (read b) b = room b (looks .is .is) bytes in
+      let r : Room (read b) b = room b (looks .is .framed .is) bytes in
       let t : Table = withPrivate (read b) (m .number) (s .me) in
       then-lock (withShared t (looksAt (m .number) (m .me)) (s .its)) b r
       (then-shared t b r (private-put b m (looks .is) bytes (s .me) refl) (looksAt (m .number) (m .me)) (s .its) (looks .least) (looks .most) (looks .at-is) refl)
@@ -119,6 +131,6 @@ module _ (b : List ℕ) (m : Module) (l : Looked) (looks : Looks b m l) (bytes :
   unfolding parts left logged
   admitted-put k first second e h =
       let framed : Framed b (m .frame) = looks .is .framed in
-      then-logged left b (room b (looks .is .is) bytes) (parts-put first) k (framed .log-is) (framed .trailer-is) (framed .held-is ∙ sym (entries b (looks .is .is) bytes)) h second
+      then-logged left b (room b (looks .is .framed .is) bytes) (parts-put first) k (framed .log-is) (framed .trailer-is) (framed .held-is ∙ sym (entries b (looks .is .framed .is) bytes)) h second
       ∙ ap (λ (x : Event). put (withLog left (logged (read b .log) x)) b) (sym e)
       ∙ ap (λ (t : Table). put t b) after-is

@@ -21,6 +21,7 @@ use Rattle.image.specs.declared.Looked.{Looked}
 
 -- where the parts of a sound image lie
 pub record Framed (b : List ℕ) (f : Frame) : Type 0 where
+  pub is : sound b ≡ true
   pub n-is : f .n ≡ modules b
   pub first-is : f .first ≡ firstAt b
   pub log-is : f .log ≡ logAt b
@@ -33,7 +34,6 @@ pub record Framed (b : List ℕ) (f : Frame) : Type 0 where
 
 -- a module of a sound image
 pub record IsModule (b : List ℕ) (m : Module) : Type 0 where
-  pub is : sound b ≡ true
   pub framed : Framed b (m .frame)
   pub least : 1 ≤ m .number
   pub most : m .number ≤ modules b

@@ -11,18 +11,20 @@ use stage::Shared;
 use stage::Stepped;
 ghost use mathlib.Core.Path.{_≡_};
 ghost use mathlib.Core.Bool.{true, false, _&&_};
+ghost use mathlib.Core.List.{[], _++_};
 ghost use Prim.Native.Nat.{_+_, _-_, _*_, _^_, _≤_, _<_};
 ghost use lib.Dec.{leb};
-ghost use lib.ListN.{length, set};
+ghost use lib.ListN.{length, set, take, drop};
+ghost use lib.Seq.{paste};
 ghost use Rattle.link.specs.Count.{next, size};
-ghost use Rattle.layout.specs.Layout.{two, privateAt, sharedAt, read, put};
+ghost use Rattle.layout.specs.Layout.{two, privateAt, sharedAt, read, logOf, put};
 ghost use Rattle.layout.proofs.Stores.{puts};
 ghost use Rattle.stage.specs.Calls as Calls;
-ghost use Rattle.stage.specs.Calls.{beginAcquisition, beginRelease, admits, capacity};
-ghost use Rattle.stage.specs.Table.{afterStep};
+ghost use Rattle.stage.specs.Calls.{beginAcquisition, beginRelease, takeLog, admits, capacity};
+ghost use Rattle.stage.specs.Table.{afterStep, logTaken};
 ghost use Rattle.layout.proofs.Changes.{privateBytes, sharedBytes, lengthBytes};
 ghost use Rattle.soundness.specs.SoundImage.{sound};
-ghost use Rattle.image.specs.Call.{Does};
+ghost use Rattle.image.specs.Call.{Does, buffer};
 ghost use Rattle.image.specs.Inside.{Framed, IsModule, Finds, Looks, partsPut};
 
 // Where the parts of a sound image lie: its n, the places of record 1, of the log and of the trailer, and how many entries are held.
@@ -248,6 +250,55 @@ fn store(image: &mut [u8], m: Module, l: Looked)
     }
 }
 
+// Copies the first n bytes of src into dst, from a place on.
+fn copy(dst: &mut [u8], at: usize, src: &[u8], n: usize)
+    requires { ⌜ (at + n ≤ length (now dst)) × (n ≤ length (now src)) ⌝ }
+    ensures { λ r. ⌜ now (dst .exit) ≡ paste (now (dst .entry)) at (now (src .entry)) n ⌝ }
+{
+    let mut i = 0;
+    while i < n {
+        dst[at + i] = src[i];
+        i += 1;
+    }
+}
+
+// The log bytes of an empty log.
+fn empty_log() -> [u8; 256]
+    ensures { λ r. ⌜ r ≡ logOf [] ⌝ }
+{
+    [0u8; 256]
+}
+
+// The log bytes of an image, from the log's place on.
+fn log_at(image: &[u8], at: usize) -> [u8; 256]
+    requires { ⌜ at + capacity ≤ length (now image) ⌝ }
+    ensures { λ r. ⌜ r ≡ take capacity (drop at (now (image .entry))) ⌝ }
+{
+    let mut log = empty_log();
+    copy(&mut log, 0, &image[at..], 256);
+    log
+}
+
+// Hands the entries of an image's log over to the buffer that is lent for them.
+fn hand_over(image: &[u8], frame: Frame, log: &mut [u8])
+    requires { ⌜ Framed (now image) frame ⌝ }
+    requires { ⌜ frame .held ≤ length (now log) ⌝ }
+    ensures { λ r. ⌜ now (log .exit) ≡ read (now (image .entry)) .log ++ drop (length (read (now (image .entry)) .log)) (now (log .entry)) ⌝ }
+{
+    let entries = log_at(image, frame.log);
+    copy(log, 0, &entries, frame.held as usize);
+}
+
+// Makes the log of an image empty and zero.
+fn clear_log(image: &mut [u8], frame: Frame)
+    requires { ⌜ Framed (now image) frame ⌝ }
+    ensures { λ r. ⌜ now (image .exit) ≡ put (logTaken (read (now (image .entry)))) (now (image .entry)) ⌝ }
+{
+    let empty = empty_log();
+    copy(image, frame.log, &empty, 256);
+    put_length(image, frame.trailer, 0);
+}
+
 fn begin_acquisition_of(image: &mut [u8], m: Module, priority: u32) -> Reply
     requires { ⌜ IsModule (now image) m ⌝ }
     ensures { λ r. ⌜ Does (beginAcquisition (m .number) priority) (now (image .entry)) r (now (image .exit)) ⌝ }
@@ -334,4 +385,22 @@ pub fn begin_release(image: &mut [u8], p: u32) -> Reply
         Found::Refused(k) => Reply::Refused(k),
         Found::Module(m) => begin_release_of(image, m),
     }
+}
+
+// Takes the log: its entries go to the buffer that is lent for them.
+pub fn take_log(image: &mut [u8], log: &mut [u8]) -> Reply
+    ensures { λ r. ⌜ Does (takeLog (length (now (log .entry)))) (now (image .entry)) r (now (image .exit)) ⌝ }
+    ensures { λ r. ⌜ now (log .exit) ≡ buffer (now (image .entry)) (now (log .entry)) ⌝ }
+{
+    if !soundness::sound(image) {
+        return Reply::Refused(1);
+    }
+    let frame = frame_of(image);
+    let held = frame.held;
+    if log.len() < held as usize {
+        return Reply::Refused(6);
+    }
+    hand_over(image, frame, log);
+    clear_log(image, frame);
+    Reply::Answered(Answer::taken(held))
 }

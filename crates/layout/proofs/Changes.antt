@@ -10,7 +10,7 @@ use native.Mathlib.Omega.{arith}
 use borrow.Author.Tests.{eq-eqb, ne-eqb}
 use lib.Dec.{T, eqb}
 use lib.ListN.{length, set, take, drop, replicate, length-append, length-replicate, length-take}
-use lib.Seq.{length-take-le, append-snoc, set-append-seam, paste}
+use lib.Seq.{length-take-le, take-all, append-snoc, set-append-seam, paste}
 use Rattle.stage.specs.Calls.{capacity}
 use Rattle.stage.specs.Table.{Table, upd}
 use Rattle.stage.specs.declared.Private.{Private}
@@ -210,11 +210,11 @@ module _ (t : Table) (b : List ℕ) (room : Room t b) where
       more
 
   -- the log empty
-  pub put-taken : (zeros : List ℕ) → take capacity zeros ≡ logOf [] → put (withLog t []) b ≡ puts (paste (put t b) (length b - 268) zeros capacity) (length b - 12) (lengthBytes 0)
+  pub put-taken : put (withLog t []) b ≡ puts (paste (put t b) (length b - 268) (logOf []) capacity) (length b - 12) (lengthBytes 0)
   unfolding put write
-  put-taken zeros e =
+  put-taken =
       put-log [] (omega arith)
       ∙ ap (λ (l : List ℕ). puts l (length b - 12) (lengthBytes 0))
-      (ap (λ (l : List ℕ). before t b ++ (recordsOf (t .n) t ++ l ++ trailerOf t)) (sym e)
-      ∙ sym (paste-second (before t b) (recordsOf (t .n) t) (logOf (t .log)) (trailerOf t) zeros capacity (length-log (t .log) (room .held)))
-      ∙ ap (λ (i : ℕ). paste (put t b) i zeros capacity) (log-place t b room))
+      (ap (λ (l : List ℕ). before t b ++ (recordsOf (t .n) t ++ l ++ trailerOf t)) (sym (take-all capacity (logOf []) (omega (arith, length-log [] (omega arith)))))
+      ∙ sym (paste-second (before t b) (recordsOf (t .n) t) (logOf (t .log)) (trailerOf t) (logOf []) capacity (length-log (t .log) (room .held)))
+      ∙ ap (λ (i : ℕ). paste (put t b) i (logOf []) capacity) (log-place t b room))

@@ -53,7 +53,7 @@ private-at-requires c κs = search needs
 -- src/lib.rt:160:1
 returns-4 : tie.Need-returns-4
 returns-4 c =
-    (is-module _ _ _ _ _ (search said) (c .before .before .before .before .frame-of .ensures) (omega arith) (omega arith) (c .before .place .ensures) (c .private-at .ensures), refl)
+    (is-module _ _ _ _ _ (c .before .before .before .before .frame-of .ensures) (omega arith) (omega arith) (c .before .place .ensures) (c .private-at .ensures), refl)
 
 pub find-spec : {M : Type 1} → statement M
 find-spec =

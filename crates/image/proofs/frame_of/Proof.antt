@@ -55,6 +55,7 @@ unfolding held
 returns c =
     let is = c .before .before .before .pre in
     record {
+      is = is;
       n-is = c .before .two-at .ensures;
       first-is = cc;
       log-is = refl;
