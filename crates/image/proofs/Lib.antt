@@ -7,3 +7,4 @@ pub mod Stored
 pub mod Named
 pub mod Copies
 pub mod Taken
+pub mod Fresh

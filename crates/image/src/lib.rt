@@ -17,11 +17,11 @@ ghost use lib.Dec.{leb};
 ghost use lib.ListN.{length, set, take, drop};
 ghost use lib.Seq.{paste};
 ghost use Rattle.link.specs.Count.{next, size};
-ghost use Rattle.layout.specs.Layout.{two, privateAt, sharedAt, read, logOf, put};
+ghost use Rattle.layout.specs.Layout.{lengthFor, two, privateAt, sharedAt, read, recordOf, recordsOf, logOf, trailerOf, put};
 ghost use Rattle.layout.proofs.Stores.{puts};
 ghost use Rattle.stage.specs.Calls as Calls;
-ghost use Rattle.stage.specs.Calls.{beginAcquisition, beginRelease, takeLog, admits, capacity};
-ghost use Rattle.stage.specs.Table.{afterStep, logTaken};
+ghost use Rattle.stage.specs.Calls.{setUp, beginAcquisition, beginRelease, takeLog, admits, capacity};
+ghost use Rattle.stage.specs.Table.{idle, untouched, freshTable, afterStep, logTaken};
 ghost use Rattle.layout.proofs.Changes.{privateBytes, sharedBytes, lengthBytes};
 ghost use Rattle.soundness.specs.SoundImage.{sound};
 ghost use Rattle.image.specs.Call.{Does, buffer};
@@ -299,6 +299,80 @@ fn clear_log(image: &mut [u8], frame: Frame)
     put_length(image, frame.trailer, 0);
 }
 
+// The bytes of a fresh record.
+fn fresh_record() -> [u8; 16]
+    ensures { λ r. ⌜ r ≡ recordOf idle untouched ⌝ }
+{
+    let l = Link::FRESH;
+    [
+        0,
+        0,
+        0,
+        0,
+        0,
+        0,
+        0,
+        0,
+        l.pointer,
+        l.mark,
+        (l.count / 256) as u8,
+        (l.count % 256) as u8,
+        0,
+        0,
+        0,
+        0,
+    ]
+}
+
+// The bytes of the trailer of a fresh image.
+fn fresh_trailer(n: u16) -> [u8; 12]
+    requires { ⌜ n ≤ 64 ⌝ }
+    ensures { λ r. ⌜ r ≡ trailerOf (freshTable n) ⌝ }
+{
+    let distance = 16 * n + 256;
+    [
+        0,
+        1,
+        (n / 256) as u8,
+        (n % 256) as u8,
+        0,
+        0,
+        0,
+        0,
+        0,
+        0,
+        (distance / 256) as u8,
+        (distance % 256) as u8,
+    ]
+}
+
+// Writes n fresh records from a place on.
+fn put_records(image: &mut [u8], first: usize, n: usize)
+    requires { ⌜ first + 16 * n ≤ length (now image) ⌝ }
+    ensures { λ r. ⌜ now (image .exit) ≡ paste (now (image .entry)) first (recordsOf n (freshTable n)) (16 * n) ⌝ }
+{
+    let fresh = fresh_record();
+    let mut k = 0;
+    while k < n {
+        copy(image, first + 16 * k, &fresh, 16);
+        k += 1;
+    }
+}
+
+// Writes a fresh image of n modules at the end of a buffer.
+fn put_fresh(image: &mut [u8], n: u16)
+    requires { ⌜ (n ≤ 64) × (lengthFor n ≤ length (now image)) ⌝ }
+    ensures { λ r. ⌜ now (image .exit) ≡ put (freshTable n) (now (image .entry)) ⌝ }
+{
+    let end = image.len();
+    let count = n as usize;
+    put_records(image, end - (16 * count + 268), count);
+    let log = empty_log();
+    copy(image, end - 268, &log, 256);
+    let trailer = fresh_trailer(n);
+    copy(image, end - 12, &trailer, 12);
+}
+
 fn begin_acquisition_of(image: &mut [u8], m: Module, priority: u32) -> Reply
     requires { ⌜ IsModule (now image) m ⌝ }
     ensures { λ r. ⌜ Does (beginAcquisition (m .number) priority) (now (image .entry)) r (now (image .exit)) ⌝ }
@@ -352,6 +426,23 @@ fn step_of(image: &mut [u8], m: Module) -> Reply
     }
     store(image, m, l);
     Reply::Answered(answer)
+}
+
+// Sets up a fresh table of n modules.
+pub fn set_up(image: &mut [u8], n: u32) -> Reply
+    ensures { λ r. ⌜ Does (setUp n) (now (image .entry)) r (now (image .exit)) ⌝ }
+{
+    if n < 1 {
+        return Reply::Refused(7);
+    }
+    if 64 < n {
+        return Reply::Refused(7);
+    }
+    if image.len() < 16 * (n as usize) + 268 {
+        return Reply::Refused(8);
+    }
+    put_fresh(image, n as u16);
+    Reply::Answered(Answer::DONE)
 }
 
 // One step of the module p.

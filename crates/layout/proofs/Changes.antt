@@ -116,7 +116,7 @@ before t b = take (length b - lengthFor (t .n)) b
 length-before : (t : Table) (b : List ℕ) → Room t b → length (before t b) ≡ length b - lengthFor (t .n)
 length-before t b room = length-take-le (length b - lengthFor (t .n)) b (omega arith)
 
-length-log : (log : List ℕ) → length log ≤ capacity → length (logOf log) ≡ capacity
+pub length-log : (log : List ℕ) → length log ≤ capacity → length (logOf log) ≡ capacity
 unfolding logOf
 length-log log h = omega (arith, length-append log (replicate (capacity - length log) 0), length-replicate {A = ℕ} (capacity - length log) 0)
 
