@@ -72,10 +72,10 @@ module _ (b : List ℕ) (is : sound b ≡ true) where
   unfolding soundLog
   held-fits = leb-true _ _ (search (parts, log-sound))
 
-  -- writing it back asks that its elements are bytes, too
-  pub written : ((i : ℕ) → byte b i < 256) → Written b
+  -- all but what the bytes mean
+  pub written : Written b
   unfolding sound soundTrailer soundZeros soundLog
-  written bytes =
+  written =
       record {
         fits = fits;
         edition = eqb-true _ _ (search (parts, trailer-sound) depth 8);
@@ -89,7 +89,6 @@ module _ (b : List ℕ) (is : sound b ≡ true) where
             let log : List ℕ = take capacity (drop (logAt b) b) in
             all-zero (drop (held b) log) (search (parts, log-sound))
             ∙ ap (λ (k : ℕ). replicate k 0) (length-drop (held b) log ∙ ap (λ (k : ℕ). k - held b) (length-take-le capacity (drop (logAt b) b) (omega (arith, length-drop (logAt b) b, fits))));
-        bytes = bytes;
       }
 
   pub least : 1 ≤ modules b

@@ -54,7 +54,7 @@ module _ (t : Table) (b : List ℕ) (room : Room t b) {b₁ b₂ : List ℕ} (so
 -- a sound image is the image of its table
 module _ (b : List ℕ) (is : sound b ≡ true) (bytes : (i : ℕ) → byte b i < 256) where
   at-first : b ≡ put (read b) b
-  at-first = sym (put-read b (written b is bytes))
+  at-first = sym (put-read b (written b is) bytes)
 
   entries : length (read b .log) ≡ held b
   entries = length-held b (fits b is) (held-fits b is)

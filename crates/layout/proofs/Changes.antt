@@ -110,10 +110,10 @@ abbrev pub placeIn : Table → List ℕ → ℕ → ℕ
 placeIn t b p = length b - lengthFor (t .n) + 16 * (p - 1)
 
 -- the owner's bytes
-abbrev before : Table → List ℕ → List ℕ
+abbrev pub before : Table → List ℕ → List ℕ
 before t b = take (length b - lengthFor (t .n)) b
 
-length-before : (t : Table) (b : List ℕ) → Room t b → length (before t b) ≡ length b - lengthFor (t .n)
+pub length-before : (t : Table) (b : List ℕ) → Room t b → length (before t b) ≡ length b - lengthFor (t .n)
 length-before t b room = length-take-le (length b - lengthFor (t .n)) b (omega arith)
 
 pub length-log : (log : List ℕ) → length log ≤ capacity → length (logOf log) ≡ capacity
@@ -121,10 +121,10 @@ unfolding logOf
 length-log log h = omega (arith, length-append log (replicate (capacity - length log) 0), length-replicate {A = ℕ} (capacity - length log) 0)
 
 -- where the log and the trailer begin
-log-place : (t : Table) (b : List ℕ) → Room t b → length (before t b) + length (recordsOf (t .n) t) ≡ length b - 268
+pub log-place : (t : Table) (b : List ℕ) → Room t b → length (before t b) + length (recordsOf (t .n) t) ≡ length b - 268
 log-place t b room = omega (arith, length-before t b room, length-records (t .n) t)
 
-trailer-place : (t : Table) (b : List ℕ) → Room t b → length (before t b) + length (recordsOf (t .n) t ++ logOf (t .log)) ≡ length b - 12
+pub trailer-place : (t : Table) (b : List ℕ) → Room t b → length (before t b) + length (recordsOf (t .n) t ++ logOf (t .log)) ≡ length b - 12
 trailer-place t b room = omega (arith, length-before t b room, length-records (t .n) t, length-append (recordsOf (t .n) t) (logOf (t .log)), length-log (t .log) (room .held))
 
 module _ (t : Table) (b : List ℕ) (room : Room t b) where

@@ -1,4 +1,4 @@
--- Writing what was read: an image whose zeros, edition, distance and log are right is the image of the table that it holds.
+-- Writing what was read: a list of bytes whose zeros, edition, distance and log are right is the image of the table that it holds.
 -- Assumes nothing.
 use mathlib.Core.Path.{_≡_, refl, sym, _∙_, ap, ap₂, subst, fun-ext}
 use mathlib.Core.Bool.{Bool, true, cond, _&&_}
@@ -21,7 +21,6 @@ pub record Written (b : List ℕ) : Type 0 where
   pub recordZeros : (p : ℕ) → 1 ≤ p → p ≤ modules b → (byte b (recordAt b p + 5) ≡ 0) × (byte b (recordAt b p + 15) ≡ 0)
   pub heldFits : held b ≤ capacity
   pub rest : drop (held b) (take capacity (drop (logAt b) b)) ≡ replicate (capacity - held b) 0
-  pub bytes : (i : ℕ) → byte b i < 256
 
 -- n numbers, by their places
 abbrev spell : ℕ → (ℕ → ℕ) → List ℕ
@@ -92,7 +91,7 @@ pub length-held : (b : List ℕ) → lengthFor (modules b) ≤ length b → held
 unfolding read
 length-held b fits few = length-take-le (held b) (drop (logAt b) b) (omega (arith, length-drop (logAt b) b))
 
-module _ (b : List ℕ) (w : Written b) where
+module _ (b : List ℕ) (w : Written b) (bytes : (i : ℕ) → byte b i < 256) where
   records-spelled : (k : ℕ) → k ≤ modules b → recordsOf k (read b) ≡ take (16 * k) (drop (firstAt b) b)
   unfolding recordsOf
   records-spelled zero h = refl
@@ -103,7 +102,7 @@ module _ (b : List ℕ) (w : Written b) where
       let zeros : (byte b (at + 5) ≡ 0) × (byte b (at + 15) ≡ 0) = w .recordZeros (suc k) (omega arith) h in
       ap₂ (λ (x y : List ℕ). x ++ y) (records-spelled k (omega arith))
       (ap₂ recordOf (private-read b (suc k) (omega arith) h) (shared-read b (suc k) (omega arith) h)
-      ∙ record-spelled b (w .bytes) at (omega (arith, w .fits)) (zeros .0) (zeros .1)
+      ∙ record-spelled b bytes at (omega (arith, w .fits)) (zeros .0) (zeros .1)
       ∙ ap (λ (i : ℕ). take 16 (drop i b)) place
       ∙ ap (λ (l : List ℕ). take 16 l) (sym (drop-drop (16 * k) (firstAt b) b)))
       ∙ sym (take-add (16 * k) 16 (drop (firstAt b) b))
@@ -121,10 +120,10 @@ module _ (b : List ℕ) (w : Written b) where
   trailer-spelled =
       let at : ℕ = trailerAt b in
       let length-is : length (take (held b) (drop (logAt b) b)) ≡ two b (at + 4) = length-held b (w .fits) (w .heldFits) in
-      let zeros : (0 ≡ byte b (at + 6)) × (0 ≡ byte b (at + 6 + 1)) = none b (w .bytes) (at + 6) (w .zeros) in
+      let zeros : (0 ≡ byte b (at + 6)) × (0 ≡ byte b (at + 6 + 1)) = none b bytes (at + 6) (w .zeros) in
       let all : drop at b ≡ spell 12 (λ k. byte b (at + k)) =
       sym (take-all 12 (drop at b) (omega (arith, length-drop at b))) ∙ spelled 12 at b (omega (arith, w .fits)) in
-      simp (length-is, ← w .distance, high b (w .bytes), low b (w .bytes), upper b (w .bytes), lower b (w .bytes), add-assoc)
+      simp (length-is, ← w .distance, high b bytes, low b bytes, upper b bytes, lower b bytes, add-assoc)
       (cc (w .edition, zeros .0, zeros .1, add-zero at, add-assoc at 6 1, all))
 
   pub put-read : put (read b) b ≡ b
