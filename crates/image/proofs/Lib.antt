@@ -8,3 +8,5 @@ pub mod Named
 pub mod Copies
 pub mod Taken
 pub mod Fresh
+pub mod PutSound
+pub mod Outcomes

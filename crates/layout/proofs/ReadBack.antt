@@ -82,7 +82,7 @@ module _ (t : Table) (b : List ℕ) (room : Room t b) where
   distance-back =
       let d : ℕ = distanceFor (t .n) in
       ap₂ (λ (x y : ℕ). 65536 * x + y) (trailer-two 8 ∙ div-add-mod (d / 65536) 256)
-        (ap (λ (i : ℕ). two image i) (add-assoc (trailerAt image) 8 2) ∙ trailer-two 10 ∙ div-add-mod (d % 65536) 256)
+      (ap (λ (i : ℕ). two image i) (add-assoc (trailerAt image) 8 2) ∙ trailer-two 10 ∙ div-add-mod (d % 65536) 256)
       ∙ div-add-mod d 65536
       ∙ ap distanceFor (sym modules-back)
 
@@ -190,5 +190,5 @@ read-put t b is fits =
     each {A} other f g here outside p =
         ap (λ (n : ℕ). cond (within 1 n p) (f p) other) (modules-back t b room)
         ∙ choose (λ (x : A). x ≡ g p) (within 1 (t .n) p)
-          (λ e. let h = both-hold (leb 1 p) (leb p (t .n)) e in here p (leb-true 1 p (h .0)) (leb-true p (t .n) (h .1)))
-          (λ e. sym (outside p e))
+        (λ e. let h = both-hold (leb 1 p) (leb p (t .n)) e in here p (leb-true 1 p (h .0)) (leb-true p (t .n) (h .1)))
+        (λ e. sym (outside p e))
