@@ -1,5 +1,4 @@
 pub mod Sound
-pub mod Looks
 pub mod Refusals
 pub mod Modules
 pub mod Events
@@ -8,5 +7,4 @@ pub mod Named
 pub mod Copies
 pub mod Taken
 pub mod Fresh
-pub mod PutSound
 pub mod Outcomes

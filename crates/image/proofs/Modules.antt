@@ -1,6 +1,6 @@
 -- A module that was found, and what its step looks at.
 -- Assumes nothing.
-use mathlib.Core.Path.{_≡_, refl, sym, _∙_, ap, ap₂, subst}
+use mathlib.Core.Path.{_≡_, refl, sym, _∙_, ap, ap₂, subst, subst⁻¹}
 use mathlib.Core.List.{List}
 use mathlib.Core.Option.{some}
 use Prim.Native.Nat.{ℕ, _+_, _-_, _*_, _≤_, _<_}
@@ -9,12 +9,12 @@ use lib.ListN.{length, getD}
 use Rattle.link.specs.Count.{next, size}
 use Rattle.stage.specs.Calls.{Call}
 use Rattle.stage.specs.Rows.{looksAt, stepped}
-use Rattle.stage.specs.Sound.{soundPrivate}
 use Rattle.stage.specs.Table.{stepOf}
 use Rattle.stage.specs.declared.Private.{Private}
 use Rattle.stage.specs.declared.Reply.{Reply}
 use Rattle.stage.specs.declared.Shared.{Shared}
 use Rattle.stage.specs.declared.Stepped.{Stepped}
+use Rattle.stage.proofs.SoundCalls.{looks-known}
 use Rattle.layout.specs.Layout.{modules, recordAt, privateAt, sharedAt, trailerAt, read, byte}
 use Rattle.layout.proofs.Rewritten.{private-read, shared-read}
 use Rattle.image.specs.declared.Frame.{Frame}
@@ -24,8 +24,7 @@ use Rattle.image.specs.declared.Found.{Found}
 use Rattle.image.specs.declared.Found.the-variants as found
 use Rattle.image.specs.Call.{Does}
 use Rattle.image.specs.Inside.{Framed, IsModule, given, unfound, Finds, Looks}
-use Rattle.image.proofs.Looks.{looks-within}
-use Rattle.image.proofs.Sound.{private-sound}
+use Rattle.image.proofs.Sound.{table}
 
 pub is-module : (b : List ℕ) (f : Frame) (p at : ℕ) (me : Private) → Framed b f → 1 ≤ p → p ≤ f .n → at ≡ f .first + 16 * (p - 1) → me ≡ privateAt b at → IsModule b (record { frame = f; number = p; at = at; me = me })
 is-module b f p at me framed least most place same =
@@ -54,7 +53,10 @@ module _ (b : List ℕ) (p : ℕ) (r : Found) (finds : Finds b p r) where
 module _ (b : List ℕ) (m : Module) (is : IsModule b m) where
   -- the module that its step looks at
   pub seen : (1 ≤ looksAt (m .number) (m .me)) × (looksAt (m .number) (m .me) ≤ modules b)
-  seen = looks-within (modules b) (m .number) (m .me) (ap (λ (x : Private). soundPrivate (modules b) x) (is .me-is) ∙ private-sound b (is .framed .is) (m .number) (is .least) (is .most)) (is .least) (is .most)
+  unfolding read
+  seen =
+      subst⁻¹ (λ (me : Private). (1 ≤ looksAt (m .number) me) × (looksAt (m .number) me ≤ modules b)) (is .me-is)
+      (looks-known (modules b) (m .number) _ (is .least) (is .most) (table b (is .framed .is) .private (m .number) (is .least) (is .most)))
 
   pub looks : (q at : ℕ) (s : Stepped) → q ≡ looksAt (m .number) (m .me) → at ≡ m .frame .first + 16 * (q - 1) → s ≡ stepped (next size) (m .number) (m .me) (sharedAt b at) (byte b (m .frame .trailer)) →
       Looks b m (record { at = at; stepped = s })

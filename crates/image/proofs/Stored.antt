@@ -25,7 +25,7 @@ use Rattle.image.specs.declared.Frame.{Frame}
 use Rattle.image.specs.declared.Module.{Module}
 use Rattle.image.specs.declared.Looked.{Looked}
 use Rattle.image.specs.Inside.{Framed, IsModule, Looks, partsPut}
-use Rattle.image.proofs.Sound.{fits, held-fits, written}
+use Rattle.image.proofs.Sound.{written}
 
 -- b₁ is the image of a table, and b₂ has one part more stored
 module _ (t : Table) (b : List ℕ) (room : Room t b) {b₁ b₂ : List ℕ} (so-far : b₁ ≡ put t b) where
@@ -57,11 +57,11 @@ module _ (b : List ℕ) (is : sound b ≡ true) (bytes : (i : ℕ) → byte b i 
   at-first = sym (put-read b (written b is) bytes)
 
   entries : length (read b .log) ≡ held b
-  entries = length-held b (fits b is) (held-fits b is)
+  entries = length-held b (written b is .fits) (written b is .heldFits)
 
   room : Room (read b) b
   unfolding read
-  room = record { fits = fits b is; held = omega (arith, entries, held-fits b is) }
+  room = record { fits = written b is .fits; held = omega (arith, entries, written b is .heldFits) }
 
   -- the log taken
   pub log-cleared : {zeros b₁ b₂ : List ℕ} (f : Frame) → Framed b f → zeros ≡ logOf [] → b₁ ≡ paste b (f .log) zeros capacity → b₂ ≡ puts b₁ (f .trailer) (lengthBytes 0) → b₂ ≡ put (logTaken (read b)) b
