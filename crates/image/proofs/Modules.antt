@@ -1,11 +1,10 @@
 -- A module that was found, and what its step looks at.
 -- Assumes nothing.
-use mathlib.Core.Path.{_≡_, refl, sym, _∙_, ap, ap₂, subst, subst⁻¹}
+use mathlib.Core.Path.{_≡_, sym, _∙_, ap, ap₂, subst, subst⁻¹}
 use mathlib.Core.List.{List}
 use mathlib.Core.Option.{some}
-use Prim.Native.Nat.{ℕ, _+_, _-_, _*_, _≤_, _<_}
+use Prim.Native.Nat.{ℕ, _+_, _-_, _*_, _≤_}
 use native.Mathlib.Omega.{arith}
-use lib.ListN.{length, getD}
 use Rattle.link.specs.Count.{next, size}
 use Rattle.stage.specs.Calls.{Call}
 use Rattle.stage.specs.Rows.{looksAt, stepped}
@@ -19,7 +18,6 @@ use Rattle.layout.specs.Layout.{modules, recordAt, privateAt, sharedAt, trailer
 use Rattle.layout.proofs.Rewritten.{private-read, shared-read}
 use Rattle.image.specs.declared.Frame.{Frame}
 use Rattle.image.specs.declared.Module.{Module}
-use Rattle.image.specs.declared.Looked.{Looked}
 use Rattle.image.specs.declared.Found.{Found}
 use Rattle.image.specs.declared.Found.the-variants as found
 use Rattle.image.specs.Call.{Does}

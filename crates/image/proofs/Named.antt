@@ -1,11 +1,11 @@
 -- What the calls that name a module say and leave, once it is found.
 -- Assumes nothing.
-use mathlib.Core.Path.{_≡_, refl, sym, _∙_, ap, ap₂, subst}
+use mathlib.Core.Path.{_≡_, refl, sym, _∙_, ap}
 use mathlib.Core.Bool.{Bool, true, false, not, _&&_, _||_}
 use mathlib.Core.List.{List, [], _∷_, _++_}
-use mathlib.Core.Option.{Option, none, some}
+use mathlib.Core.Option.{none}
 use Prim.Native.Nat.{ℕ, _≤_, _<_}
-use borrow.Author.Tests.{eq-eqb, ne-eqb, le-leb, lt-leb}
+use borrow.Author.Tests.{ne-eqb, le-leb, lt-leb}
 use lib.Dec.{eqb, leb}
 use lib.ListN.{length}
 use Rattle.link.specs.Count.{next, size}
@@ -17,10 +17,10 @@ use Rattle.stage.specs.declared.Event.the-variants.{Done}
 use Rattle.stage.specs.declared.Private.{Private}
 use Rattle.stage.specs.declared.Stepped.{Stepped}
 use Rattle.stage.specs.declared.Reply.the-variants.{Refused, Answered}
-use Rattle.layout.specs.Layout.{modules, held, read, put}
+use Rattle.layout.specs.Layout.{held, read, put}
 use Rattle.layout.proofs.Rewritten.{length-held}
 use Rattle.image.specs.Call.{refused, Does}
-use Rattle.image.specs.Inside.{given, unfound, Framed, IsModule, Looks}
+use Rattle.image.specs.Inside.{given, unfound, IsModule, Looks}
 use Rattle.image.specs.declared.Module.{Module}
 use Rattle.image.specs.declared.Looked.{Looked}
 use Rattle.image.proofs.Refusals.{refuses, accepts, found}

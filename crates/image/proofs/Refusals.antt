@@ -1,7 +1,7 @@
 -- Which refusal is given, and what a call does where one is and where none is.
 -- Assumes nothing.
-use mathlib.Core.Path.{_≡_, refl, sym, _∙_, ap, ap₂}
-use mathlib.Core.Bool.{Bool, true, false, not, cond, _&&_}
+use mathlib.Core.Path.{_≡_, refl, sym, _∙_, ap}
+use mathlib.Core.Bool.{Bool, true, false, cond}
 use mathlib.Core.List.{List, [], _∷_, _++_}
 use mathlib.Core.Option.{Option, none, some}
 use Prim.Native.Nat.{ℕ, _≤_, _<_}
@@ -9,7 +9,7 @@ use borrow.Author.Tests.{le-leb, lt-leb}
 use lib.Dec.{leb}
 use Rattle.laws.proofs.Said.{no-right}
 use Rattle.link.specs.Count.{next, size}
-use Rattle.stage.specs.Calls.{Call, within, refusing, answered, after}
+use Rattle.stage.specs.Calls.{Call, refusing, answered, after}
 use Rattle.stage.specs.declared.Reply.{Reply}
 use Rattle.stage.specs.declared.Reply.the-variants.{Refused, Answered}
 use Rattle.layout.specs.Layout.{modules, read, put}

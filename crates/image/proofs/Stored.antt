@@ -1,9 +1,9 @@
 -- What a call stores, part after part, is the image of the table after it.
 -- Assumes nothing.
 use mathlib.Core.Path.{_≡_, refl, sym, _∙_, ap, ap₂}
-use mathlib.Core.Bool.{Bool, true, false, _&&_, false≢true}
+use mathlib.Core.Bool.{true, false, false≢true}
 use mathlib.Core.List.{List, [], _∷_, _++_}
-use Prim.Native.Nat.{ℕ, _+_, _-_, _*_, _≤_, _<_}
+use Prim.Native.Nat.{ℕ, _+_, _-_, _≤_, _<_}
 use native.Mathlib.Omega.{arith}
 use lib.ListN.{length, set}
 use lib.Seq.{paste}
@@ -16,7 +16,7 @@ use Rattle.stage.specs.declared.Event.the-variants.{Done, Waiting, Admitted, Jo
 use Rattle.stage.specs.declared.Private.{Private}
 use Rattle.stage.specs.declared.Shared.{Shared}
 use Rattle.stage.specs.declared.Stepped.{Stepped}
-use Rattle.layout.specs.Layout.{byte, lengthFor, modules, held, trailerAt, logAt, recordAt, sharedAt, read, logOf, put}
+use Rattle.layout.specs.Layout.{byte, held, sharedAt, read, logOf, put}
 use Rattle.layout.proofs.Stores.{puts}
 use Rattle.layout.proofs.Changes.{withPrivate, withShared, withLock, withLog, privateBytes, sharedBytes, lengthBytes, Room, placeIn, put-private, put-shared, put-lock, put-logged, put-taken}
 use Rattle.layout.proofs.Rewritten.{shared-read, length-held, put-read}

@@ -3,14 +3,13 @@
 use mathlib.Core.Path.{_≡_, refl, sym, _∙_, ap, ap₂}
 use mathlib.Core.Bool.{Bool, true, false, not}
 use mathlib.Core.List.{List, [], _∷_, _++_}
-use mathlib.Core.Option.{Option, none, some}
+use mathlib.Core.Option.{none, some}
 use Prim.Native.Nat.{ℕ, _+_, _≤_, _<_}
 use native.Mathlib.Omega.{arith}
 use borrow.Author.Tests.{lt-ltb, le-ltb}
 use lib.Dec.{ltb}
 use lib.ListN.{length, take, drop}
 use lib.Seq.{paste, take-take}
-use Rattle.link.specs.Count.{next, size}
 use Rattle.stage.specs.Answers.{answerOf}
 use Rattle.stage.specs.Calls.{takeLog, capacity, refusing, refusals, answered, after}
 use Rattle.stage.specs.Table.{logTaken}

@@ -17,11 +17,11 @@ ghost use lib.Dec.{leb};
 ghost use lib.ListN.{length, set, take, drop};
 ghost use lib.Seq.{paste};
 ghost use Rattle.link.specs.Count.{next, size};
-ghost use Rattle.layout.specs.Layout.{lengthFor, two, privateAt, sharedAt, read, recordOf, recordsOf, logOf, trailerOf, put};
-ghost use Rattle.layout.proofs.Stores.{puts};
 ghost use Rattle.stage.specs.Calls as Calls;
 ghost use Rattle.stage.specs.Calls.{setUp, beginAcquisition, beginRelease, takeLog, admits, capacity};
 ghost use Rattle.stage.specs.Table.{idle, untouched, freshTable, afterStep, logTaken};
+ghost use Rattle.layout.specs.Layout.{lengthFor, two, privateAt, sharedAt, read, recordOf, recordsOf, logOf, trailerOf, put};
+ghost use Rattle.layout.proofs.Stores.{puts};
 ghost use Rattle.layout.proofs.Changes.{privateBytes, sharedBytes, lengthBytes};
 ghost use Rattle.soundness.specs.SoundImage.{sound};
 ghost use Rattle.image.specs.Call.{Does, buffer};
@@ -44,8 +44,9 @@ struct Module {
     me: Private,
 }
 
+// What the search for a module comes to.
 enum Found {
-    // The call is refused by this number.
+    // A refusal, by its number.
     Refused(u8),
     Module(Module),
 }
@@ -56,6 +57,7 @@ struct Looked {
     stepped: Stepped,
 }
 
+// A byte as a wider number.
 fn wide(x: u8) -> u16
     ensures { λ r. ⌜ (r ≡ x) × (r < 256) ⌝ }
 {
@@ -70,6 +72,7 @@ fn two_at(image: &[u8], at: usize) -> u16
     256 * wide(image[at]) + wide(image[at + 1])
 }
 
+// Where the parts of this image lie.
 fn frame_of(image: &[u8]) -> Frame
     requires { ⌜ sound (now image) ≡ true ⌝ }
     ensures { λ r. ⌜ Framed (now (image .entry)) r ⌝ }
@@ -299,51 +302,32 @@ fn clear_log(image: &mut [u8], frame: Frame)
     put_length(image, frame.trailer, 0);
 }
 
-// The bytes of a fresh record.
+// The bytes of a fresh record: zero but for the fresh link.
 fn fresh_record() -> [u8; 16]
     ensures { λ r. ⌜ r ≡ recordOf idle untouched ⌝ }
 {
     let l = Link::FRESH;
-    [
-        0,
-        0,
-        0,
-        0,
-        0,
-        0,
-        0,
-        0,
-        l.pointer,
-        l.mark,
-        (l.count / 256) as u8,
-        (l.count % 256) as u8,
-        0,
-        0,
-        0,
-        0,
-    ]
+    let mut r = [0u8; 16];
+    r[8] = l.pointer;
+    r[9] = l.mark;
+    r[10] = (l.count / 256) as u8;
+    r[11] = (l.count % 256) as u8;
+    r
 }
 
-// The bytes of the trailer of a fresh image.
+// The bytes of the trailer of a fresh image: zero but for edition, n and distance.
 fn fresh_trailer(n: u16) -> [u8; 12]
     requires { ⌜ n ≤ 64 ⌝ }
     ensures { λ r. ⌜ r ≡ trailerOf (freshTable n) ⌝ }
 {
     let distance = 16 * n + 256;
-    [
-        0,
-        1,
-        (n / 256) as u8,
-        (n % 256) as u8,
-        0,
-        0,
-        0,
-        0,
-        0,
-        0,
-        (distance / 256) as u8,
-        (distance % 256) as u8,
-    ]
+    let mut r = [0u8; 12];
+    r[1] = 1;
+    r[2] = (n / 256) as u8;
+    r[3] = (n % 256) as u8;
+    r[10] = (distance / 256) as u8;
+    r[11] = (distance % 256) as u8;
+    r
 }
 
 // Writes n fresh records from a place on.
@@ -373,6 +357,7 @@ fn put_fresh(image: &mut [u8], n: u16)
     copy(image, end - 12, &trailer, 12);
 }
 
+// Begins an acquisition by a module that was found.
 fn begin_acquisition_of(image: &mut [u8], m: Module, priority: u32) -> Reply
     requires { ⌜ IsModule (now image) m ⌝ }
     ensures { λ r. ⌜ Does (beginAcquisition (m .number) priority) (now (image .entry)) r (now (image .exit)) ⌝ }
@@ -394,6 +379,7 @@ fn begin_acquisition_of(image: &mut [u8], m: Module, priority: u32) -> Reply
     Reply::Answered(Answer::DONE)
 }
 
+// Begins a release by a module that was found.
 fn begin_release_of(image: &mut [u8], m: Module) -> Reply
     requires { ⌜ IsModule (now image) m ⌝ }
     ensures { λ r. ⌜ Does (beginRelease (m .number)) (now (image .entry)) r (now (image .exit)) ⌝ }
@@ -406,6 +392,7 @@ fn begin_release_of(image: &mut [u8], m: Module) -> Reply
     Reply::Answered(Answer::DONE)
 }
 
+// One step of a module that was found.
 fn step_of(image: &mut [u8], m: Module) -> Reply
     requires { ⌜ IsModule (now image) m ⌝ }
     ensures { λ r. ⌜ Does (Calls.step (m .number)) (now (image .entry)) r (now (image .exit)) ⌝ }
@@ -445,17 +432,6 @@ pub fn set_up(image: &mut [u8], n: u32) -> Reply
     Reply::Answered(Answer::DONE)
 }
 
-// One step of the module p.
-pub fn step(image: &mut [u8], p: u32) -> Reply
-    ensures { λ r. ⌜ Does (Calls.step p) (now (image .entry)) r (now (image .exit)) ⌝ }
-{
-    let found = find(image, p);
-    match found {
-        Found::Refused(k) => Reply::Refused(k),
-        Found::Module(m) => step_of(image, m),
-    }
-}
-
 // Begins an acquisition by the module p, with a priority.
 pub fn begin_acquisition(image: &mut [u8], p: u32, priority: u32) -> Reply
     ensures { λ r. ⌜ Does (beginAcquisition p priority) (now (image .entry)) r (now (image .exit)) ⌝ }
@@ -475,6 +451,17 @@ pub fn begin_release(image: &mut [u8], p: u32) -> Reply
     match found {
         Found::Refused(k) => Reply::Refused(k),
         Found::Module(m) => begin_release_of(image, m),
+    }
+}
+
+// One step of the module p.
+pub fn step(image: &mut [u8], p: u32) -> Reply
+    ensures { λ r. ⌜ Does (Calls.step p) (now (image .entry)) r (now (image .exit)) ⌝ }
+{
+    let found = find(image, p);
+    match found {
+        Found::Refused(k) => Reply::Refused(k),
+        Found::Module(m) => step_of(image, m),
     }
 }
 

@@ -1,23 +1,23 @@
 -- A table with ONE part changed, written over an image: the old bytes with some bytes stored.
 -- Assumes nothing.
 use mathlib.Core.Path.{_≡_, refl, sym, _∙_, ap, ap₂, subst}
-use mathlib.Core.Bool.{Bool, true, false, cond, _&&_}
-use mathlib.Core.List.{List, [], _∷_, _++_, append-assoc}
+use mathlib.Core.List.{List, [], _∷_, _++_}
 use Prim.Native.Nat.{ℕ, zero, suc, _+_, _-_, _*_, _/_, _%_, _≤_, _<_}
 use native.Mathlib.Nat.{add-zero}
 use native.Mathlib.Decide.{ℕ-discrete}
 use native.Mathlib.Omega.{arith}
-use borrow.Author.Tests.{eq-eqb, ne-eqb}
-use lib.Dec.{T, eqb}
-use lib.ListN.{length, set, take, drop, replicate, length-append, length-replicate, length-take}
+use lib.Dec.{T}
+use lib.ListN.{length, set, take, replicate, length-append, length-replicate}
 use lib.Seq.{length-take-le, take-all, append-snoc, set-append-seam, paste}
 use Rattle.stage.specs.Calls.{capacity}
 use Rattle.stage.specs.Table.{Table, upd}
 use Rattle.stage.specs.declared.Private.{Private}
 use Rattle.stage.specs.declared.Shared.{Shared}
-use Rattle.layout.specs.Layout.{lengthFor, twoOf, recordOf, recordsOf, logOf, trailerOf, write, put}
-use Rattle.layout.proofs.Stores.{Offsets, puts, under, length-puts, puts-left, puts-right, puts-first, puts-second, puts-third, paste-second}
+use Rattle.stage.proofs.Update.{upd-same, upd-other}
+use Rattle.layout.specs.Layout.{lengthFor, recordOf, recordsOf, logOf, trailerOf, write, put}
+use Rattle.layout.proofs.Stores.{Offsets, puts, under, puts-left, puts-right, puts-first, puts-second, puts-third, paste-second}
 
+-- a table with one part changed
 abbrev pub withPrivate : Table → ℕ → Private → Table
 withPrivate t p me = record { n = t .n; private = upd (t .private) p me; shared = t .shared; lock = t .lock; log = t .log }
 
@@ -140,22 +140,22 @@ module _ (t : Table) (b : List ℕ) (room : Room t b) where
       ∙ ap (λ (k : ℕ). puts (put t b) (k + 16 * (p - 1)) es) (length-before t b room)
 
   pub put-private : (p : ℕ) (me : Private) → 1 ≤ p → p ≤ t .n → put (withPrivate t p me) b ≡ puts (put t b) (placeIn t b p) (privateBytes me)
-  unfolding upd recordOf
+  unfolding recordOf
   put-private p me =
       record-stored (upd (t .private) p me) (t .shared) p (privateBytes me)
       (record {
-        others = λ q ne. ap (λ (x : Bool). recordOf (cond x me (t .private q)) (t .shared q)) (ne-eqb q p ne);
-        here = ap (λ (x : Bool). recordOf (cond x me (t .private p)) (t .shared p)) (eq-eqb p p refl);
+        others = λ q ne. ap (λ (x : Private). recordOf x (t .shared q)) (upd-other (t .private) p me q ne);
+        here = ap (λ (x : Private). recordOf x (t .shared p)) (upd-same (t .private) p me);
         inside = tt;
       })
 
   pub put-shared : (p : ℕ) (its : Shared) → 1 ≤ p → p ≤ t .n → put (withShared t p its) b ≡ puts (put t b) (placeIn t b p) (sharedBytes its)
-  unfolding upd recordOf
+  unfolding recordOf
   put-shared p its =
       record-stored (t .private) (upd (t .shared) p its) p (sharedBytes its)
       (record {
-        others = λ q ne. ap (λ (x : Bool). recordOf (t .private q) (cond x its (t .shared q))) (ne-eqb q p ne);
-        here = ap (λ (x : Bool). recordOf (t .private p) (cond x its (t .shared p))) (eq-eqb p p refl);
+        others = λ q ne. ap (recordOf (t .private q)) (upd-other (t .shared) p its q ne);
+        here = ap (recordOf (t .private p)) (upd-same (t .shared) p its);
         inside = tt;
       })
 

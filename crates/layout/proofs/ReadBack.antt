@@ -1,8 +1,8 @@
 -- Reading what was written: the image of a table that fits holds that table.
 -- Assumes nothing.
-use mathlib.Core.Path.{_≡_, refl, sym, _∙_, ap, ap₂, subst, fun-ext}
-use mathlib.Core.Bool.{Bool, true, false, cond, _&&_}
-use mathlib.Core.List.{List, [], _∷_, _++_, append-assoc}
+use mathlib.Core.Path.{_≡_, sym, _∙_, ap, ap₂, fun-ext}
+use mathlib.Core.Bool.{false, cond}
+use mathlib.Core.List.{List, _++_, append-assoc}
 use Prim.Native.Nat.{ℕ, zero, suc, _+_, _-_, _*_, _/_, _%_, _≤_, _<_}
 use native.Mathlib.Nat.{add-zero, add-assoc, div-add-mod}
 use native.Mathlib.Decide.{ℕ-discrete}
@@ -14,11 +14,9 @@ use lib.Seq.{getD-append-add, take-at, drop-at, take-append-seam, drop-append-se
 use Rattle.laws.proofs.Cases.{choose, both-hold}
 use Rattle.stage.specs.Calls.{within, capacity}
 use Rattle.stage.specs.Table.{Table, idle, untouched}
-use Rattle.stage.specs.declared.Private.{Private}
-use Rattle.stage.specs.declared.Shared.{Shared}
 use Rattle.layout.specs.Layout.{byte, two, four, lengthFor, distanceFor, trailerAt, modules, logAt, recordAt, privateAt, sharedAt, held, read, recordOf, recordsOf, logOf, trailerOf, write, put}
 use Rattle.layout.proofs.Rewritten.{Written}
-use Rattle.layout.proofs.Changes.{recordIn, length-record, length-records, length-log, Room, placeIn, before, length-before, log-place, trailer-place}
+use Rattle.layout.proofs.Changes.{recordIn, length-records, length-log, Room, placeIn, before, length-before, log-place, trailer-place}
 
 -- a table that an image can hold: outside 1 to n it is the one that is read there
 pub record Held (t : Table) : Type 0 where

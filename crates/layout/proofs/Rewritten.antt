@@ -1,17 +1,17 @@
 -- Writing what was read: a list of bytes whose zeros, edition, distance and log are right is the image of the table that it holds.
 -- Assumes nothing.
-use mathlib.Core.Path.{_≡_, refl, sym, _∙_, ap, ap₂, subst, fun-ext}
+use mathlib.Core.Path.{_≡_, refl, sym, _∙_, ap, ap₂, fun-ext}
 use mathlib.Core.Bool.{Bool, true, cond, _&&_}
-use mathlib.Core.List.{List, [], _∷_, _++_, append-assoc}
+use mathlib.Core.List.{List, [], _∷_, _++_}
 use Prim.Native.Nat.{ℕ, zero, suc, _+_, _-_, _*_, _/_, _%_, _≤_, _<_}
-use native.Mathlib.Nat.{add-zero, add-suc, suc-add, zero-add, add-assoc}
+use native.Mathlib.Nat.{add-zero, add-suc, suc-add, add-assoc}
 use native.Mathlib.Omega.{arith}
 use borrow.Author.Tests.{le-leb}
-use lib.ListN.{length, getD, take, drop, replicate, length-take, length-drop, take-append-drop}
+use lib.ListN.{length, take, drop, replicate, length-drop, take-append-drop}
 use lib.Seq.{drop-cons, length-take-le, take-all, take-take, drop-drop, take-add}
 use Rattle.stage.specs.Calls.{within, capacity}
-use Rattle.stage.specs.Table.{Table, idle, untouched}
-use Rattle.layout.specs.Layout.{byte, two, four, lengthFor, distanceFor, trailerAt, modules, logAt, firstAt, recordAt, privateAt, sharedAt, held, read, twoOf, recordOf, recordsOf, logOf, trailerOf, write, put}
+use Rattle.stage.specs.Table.{idle, untouched}
+use Rattle.layout.specs.Layout.{byte, two, four, lengthFor, distanceFor, trailerAt, modules, logAt, firstAt, recordAt, privateAt, sharedAt, held, read, recordOf, recordsOf, logOf, trailerOf, write, put}
 
 pub record Written (b : List ℕ) : Type 0 where
   pub fits : lengthFor (modules b) ≤ length b

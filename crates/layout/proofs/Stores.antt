@@ -3,7 +3,7 @@
 use mathlib.Core.Path.{_≡_, refl, sym, _∙_, ap, ap₂}
 use mathlib.Core.Bool.{Bool, true, false, _&&_}
 use mathlib.Core.List.{List, [], _∷_, _++_, append-assoc}
-use Prim.Native.Nat.{ℕ, zero, suc, _+_, _≤_, _<_, _/_, _%_}
+use Prim.Native.Nat.{ℕ, _+_, _≤_}
 use native.Mathlib.Nat.{zero-add, suc-add, add-assoc}
 use native.Mathlib.Omega.{arith}
 use lib.Dec.{T, ltb, ltb→lt}
@@ -27,10 +27,6 @@ under n (e ∷ others) = ltb (e .0) n && under n others
 both : (a b : Bool) → T (a && b) → T a × T b
 both true b h = (tt, h)
 both false b h = absurd h
-
-pub length-puts : (l : List ℕ) (at : ℕ) (es : Offsets) → length (puts l at es) ≡ length l
-length-puts l at [] = refl
-length-puts l at (e ∷ es) = length-puts (set l (at + e .0) (e .1)) at es ∙ length-set l (at + e .0) (e .1)
 
 set-right : (xs ys : List ℕ) (i v : ℕ) → set (xs ++ ys) (length xs + i) v ≡ xs ++ set ys i v
 set-right [] ys i v = ap (λ (k : ℕ). set ys k v) (zero-add i)

@@ -1,3 +1,5 @@
+-- `begin_acquisition` refuses what `find` refuses, and is `begin_acquisition_of` for the module found.
+-- Assumes nothing.
 use borrow.Author.Needs.{needs}
 use Rattle.stage.specs.Calls
 use Rattle.image.proofs.Modules.{was-refused, was-found, by-number}
@@ -5,40 +7,28 @@ use Rattle.image.proofs.Named.{acquisition-refused}
 use Rattle.image.proofs.Refusals.{not-found}
 use Rattle.image.proofs.begin_acquisition.Statement.{statement}
 use Rattle.image.proofs.begin_acquisition.Tie as tie
-use Rattle.image.proofs.begin_acquisition.Reads as reads
-use Rattle.image.proofs.begin_acquisition.Lts as lts
-use Rattle.image.proofs.begin_acquisition_of.Reads as begin-acquisition-of-reads
-use Rattle.image.proofs.find.Reads as find-reads
 
--- src/lib.rt:321:9
 find-requires : tie.Need-find-requires
 find-requires c κs = search needs
 
--- src/lib.rt:323:24
 enum-known-found : tie.Need-enum-known-found
 enum-known-found c = search needs
 
--- src/lib.rt:324:23
 enum-known-found-2 : tie.Need-enum-known-found-2
 enum-known-found-2 c = search needs
 
--- src/lib.rt:324:29
 begin-acquisition-of-requires : tie.Need-begin-acquisition-of-requires
 begin-acquisition-of-requires c κs = was-found _ _ _ (c .before .before .before .before .find .ensures) _ (c .before .before .found2 .given .1)
 
--- src/lib.rt:318:1
 same-length : tie.Need-same-length
 same-length c = search needs
 
--- src/lib.rt:318:1
 returns : tie.Need-returns
 returns c = not-found _ _ _ _ (acquisition-refused _ _ _) _ (was-refused _ _ _ (c .before .before .before .find .ensures) _ (c .before .found .given .1))
 
--- src/lib.rt:318:1
 same-length-2 : tie.Need-same-length-2
 same-length-2 c = search needs
 
--- src/lib.rt:318:1
 returns-2 : tie.Need-returns-2
 returns-2 c =
     let start = c .before .before .before .before .before .before .before .before .before .before in

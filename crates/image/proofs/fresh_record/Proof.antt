@@ -1,3 +1,5 @@
+-- The array of `fresh_record` is the record of an idle module.
+-- Assumes nothing.
 use mathlib.Core.Path.{refl}
 use borrow.Author.Needs.{needs}
 use Rattle.link.specs.Operations.{fresh}
@@ -5,21 +7,37 @@ use Rattle.stage.specs.Table.{idle, untouched}
 use Rattle.layout.specs.Layout.{recordOf}
 use Rattle.image.proofs.fresh_record.Statement.{statement}
 use Rattle.image.proofs.fresh_record.Tie as tie
-use Rattle.image.proofs.fresh_record.Reads as reads
-use Rattle.image.proofs.fresh_record.Lts as lts
 
--- src/lib.rt:318:9
-cast-t3 : tie.Need-cast-t3
-cast-t3 c = search needs
+array-write-r : tie.Need-array-write-r
+array-write-r c = search needs
 
--- src/lib.rt:319:9
-cast-t5 : tie.Need-cast-t5
-cast-t5 c = search needs
+array-write-r-2 : tie.Need-array-write-r-2
+array-write-r-2 c = search needs
 
--- src/lib.rt:303:1
+cast-r : tie.Need-cast-r
+cast-r c = search needs
+
+array-write-r-3 : tie.Need-array-write-r-3
+array-write-r-3 c = search needs
+
+cast-r-2 : tie.Need-cast-r-2
+cast-r-2 c = search needs
+
+array-write-r-4 : tie.Need-array-write-r-4
+array-write-r-4 c = search needs
+
 returns : tie.Need-returns
 unfolding recordOf idle untouched fresh
 returns c = refl
 
 pub fresh-record-spec : {M : Type 1} → statement M
-fresh-record-spec = tie.close (tie.spec cast-t3 cast-t5 returns)
+fresh-record-spec =
+    tie.close
+    (tie.spec
+    array-write-r
+    array-write-r-2
+    cast-r
+    array-write-r-3
+    cast-r-2
+    array-write-r-4
+    returns)

@@ -1,64 +1,49 @@
+-- `private_at` reads the bytes that the definition names.
+-- Assumes nothing.
 use borrow.Author.Needs.{needs}
 use Rattle.layout.specs.Layout.{privateAt}
 use Rattle.image.proofs.private_at.Statement.{statement}
 use Rattle.image.proofs.private_at.Tie as tie
-use Rattle.image.proofs.private_at.Reads as reads
-use Rattle.image.proofs.private_at.Lts as lts
-use Rattle.image.proofs.two_at.Reads as two-at-reads
 
--- src/lib.rt:62:16
 shared-slice-read-t4 : tie.Need-shared-slice-read-t4
 shared-slice-read-t4 c = search needs
 
--- src/lib.rt:63:20
 add-t5 : tie.Need-add-t5
 add-t5 c = search needs
 
--- src/lib.rt:63:14
 shared-slice-read-t7 : tie.Need-shared-slice-read-t7
 shared-slice-read-t7 c = search needs
 
--- src/lib.rt:64:21
 add-t8 : tie.Need-add-t8
 add-t8 c = search needs
 
--- src/lib.rt:64:15
 shared-slice-read-t10 : tie.Need-shared-slice-read-t10
 shared-slice-read-t10 c = search needs
 
--- src/lib.rt:66:28
 add-t11 : tie.Need-add-t11
 add-t11 c = search needs
 
--- src/lib.rt:66:22
 shared-slice-read-t13 : tie.Need-shared-slice-read-t13
 shared-slice-read-t13 c = search needs
 
--- src/lib.rt:67:25
 add-t14 : tie.Need-add-t14
 add-t14 c = search needs
 
--- src/lib.rt:67:19
 shared-slice-read-t16 : tie.Need-shared-slice-read-t16
 shared-slice-read-t16 c = search needs
 
--- src/lib.rt:68:34
 add-two-at : tie.Need-add-two-at
 add-two-at c = search needs
 
--- src/lib.rt:68:20
 two-at-requires : tie.Need-two-at-requires
 two-at-requires c κs = search needs
 
--- src/lib.rt:70:18
 add-t20 : tie.Need-add-t20
 add-t20 c = search needs
 
--- src/lib.rt:70:12
 shared-slice-read-t22 : tie.Need-shared-slice-read-t22
 shared-slice-read-t22 c = search needs
 
--- src/lib.rt:57:1
 returns : tie.Need-returns
 unfolding privateAt
 returns c = cc

@@ -1,67 +1,49 @@
+-- `put_fresh` writes records, log and trailer one behind the other.
+-- Assumes nothing.
 use borrow.Author.Needs.{needs}
 use Rattle.image.proofs.Fresh.{fresh-put}
 use Rattle.image.proofs.put_fresh.Statement.{statement}
 use Rattle.image.proofs.put_fresh.Tie as tie
-use Rattle.image.proofs.put_fresh.Reads as reads
-use Rattle.image.proofs.put_fresh.Lts as lts
-use Rattle.image.proofs.copy.Reads as copy-reads
-use Rattle.image.proofs.empty_log.Reads as empty-log-reads
-use Rattle.image.proofs.fresh_trailer.Reads as fresh-trailer-reads
-use Rattle.image.proofs.put_records.Reads as put-records-reads
 
--- src/lib.rt:369:31
 mul-put-records : tie.Need-mul-put-records
 mul-put-records c = search needs
 
--- src/lib.rt:369:31
 add-put-records : tie.Need-add-put-records
 add-put-records c = search needs
 
--- src/lib.rt:369:24
 sub-put-records : tie.Need-sub-put-records
 sub-put-records c = search needs
 
--- src/lib.rt:369:5
 put-records-requires : tie.Need-put-records-requires
 put-records-requires c κs = search needs
 
--- src/lib.rt:370:15
 empty-log-requires : tie.Need-empty-log-requires
 empty-log-requires c κs = search needs
 
--- src/lib.rt:371:17
 sub-copy : tie.Need-sub-copy
 sub-copy c = search needs
 
--- src/lib.rt:371:28
 slice-aggregate-copy : tie.Need-slice-aggregate-copy
 slice-aggregate-copy c = search needs
 
--- src/lib.rt:371:5
 copy-requires : tie.Need-copy-requires
 copy-requires c κs = search needs
 
--- src/lib.rt:372:19
 fresh-trailer-requires : tie.Need-fresh-trailer-requires
 fresh-trailer-requires c κs = search needs
 
--- src/lib.rt:373:17
 sub-copy-2 : tie.Need-sub-copy-2
 sub-copy-2 c = search needs
 
--- src/lib.rt:373:27
 slice-aggregate-copy-2 : tie.Need-slice-aggregate-copy-2
 slice-aggregate-copy-2 c = search needs
 
--- src/lib.rt:373:5
 copy-requires-2 : tie.Need-copy-requires-2
 copy-requires-2 c κs = search needs
 
--- src/lib.rt:363:1
 same-length : tie.Need-same-length
 same-length c = search needs
 
--- src/lib.rt:363:1
 returns : tie.Need-returns
 returns c =
     let records = c .before .before .before .before .before .before .before .before .before .before .before .before .before .before in

@@ -1,40 +1,32 @@
+-- `put_length` stores the two bytes of the log length at their places in the trailer.
+-- Assumes nothing.
 use native.Mathlib.Omega.{arith}
 use borrow.Author.Needs.{needs}
 use lib.ListN.{length-set}
 use Rattle.image.proofs.put_length.Statement.{statement}
 use Rattle.image.proofs.put_length.Tie as tie
-use Rattle.image.proofs.put_length.Reads as reads
-use Rattle.image.proofs.put_length.Lts as lts
 
--- src/lib.rt:147:21
 cast-image : tie.Need-cast-image
 cast-image c = search needs
 
--- src/lib.rt:147:11
 add-image : tie.Need-add-image
 add-image c = search needs
 
--- src/lib.rt:147:5
 slice-write-image : tie.Need-slice-write-image
 slice-write-image c = search needs
 
--- src/lib.rt:148:21
 cast-image-2 : tie.Need-cast-image-2
 cast-image-2 c = search needs
 
--- src/lib.rt:148:11
 add-image-2 : tie.Need-add-image-2
 add-image-2 c = search needs
 
--- src/lib.rt:148:5
 slice-write-image-2 : tie.Need-slice-write-image-2
 slice-write-image-2 c = simp length-set (omega arith)
 
--- src/lib.rt:143:1
 same-length : tie.Need-same-length
 same-length c = search needs
 
--- src/lib.rt:143:1
 returns : tie.Need-returns
 returns c = search needs
 

@@ -1,73 +1,56 @@
+-- `put_shared` stores each byte of a shared part at its place in the record.
+-- Assumes nothing.
 use borrow.Author.Needs.{needs}
-use native.Mathlib.Nat.{add-zero}
 use native.Mathlib.Omega.{arith}
 use lib.ListN.{length-set}
 use Rattle.image.proofs.put_shared.Statement.{statement}
 use Rattle.image.proofs.put_shared.Tie as tie
-use Rattle.image.proofs.put_shared.Reads as reads
-use Rattle.image.proofs.put_shared.Lts as lts
 
--- src/lib.rt:110:11
 add-image : tie.Need-add-image
 add-image c = search needs
 
--- src/lib.rt:110:5
 slice-write-image : tie.Need-slice-write-image
 slice-write-image c = search needs
 
--- src/lib.rt:111:11
 add-image-2 : tie.Need-add-image-2
 add-image-2 c = search needs
 
--- src/lib.rt:111:5
 slice-write-image-2 : tie.Need-slice-write-image-2
 slice-write-image-2 c = simp length-set (omega arith)
 
--- src/lib.rt:112:22
 cast-image : tie.Need-cast-image
 cast-image c = search needs
 
--- src/lib.rt:112:11
 add-image-3 : tie.Need-add-image-3
 add-image-3 c = search needs
 
--- src/lib.rt:112:5
 slice-write-image-3 : tie.Need-slice-write-image-3
 slice-write-image-3 c = simp length-set (omega arith)
 
--- src/lib.rt:113:22
 cast-image-2 : tie.Need-cast-image-2
 cast-image-2 c = search needs
 
--- src/lib.rt:113:11
 add-image-4 : tie.Need-add-image-4
 add-image-4 c = search needs
 
--- src/lib.rt:113:5
 slice-write-image-4 : tie.Need-slice-write-image-4
 slice-write-image-4 c = simp length-set (omega arith)
 
--- src/lib.rt:114:11
 add-image-5 : tie.Need-add-image-5
 add-image-5 c = search needs
 
--- src/lib.rt:114:5
 slice-write-image-5 : tie.Need-slice-write-image-5
 slice-write-image-5 c = simp length-set (omega arith)
 
--- src/lib.rt:115:11
 add-image-6 : tie.Need-add-image-6
 add-image-6 c = search needs
 
--- src/lib.rt:115:5
 slice-write-image-6 : tie.Need-slice-write-image-6
 slice-write-image-6 c = simp length-set (omega arith)
 
--- src/lib.rt:106:1
 same-length : tie.Need-same-length
 same-length c = search needs
 
--- src/lib.rt:106:1
 returns : tie.Need-returns
 returns c = search needs
 

@@ -1,3 +1,5 @@
+-- `step` refuses what `find` refuses, and is `step_of` for the module found.
+-- Assumes nothing.
 use borrow.Author.Needs.{needs}
 use Rattle.stage.specs.Calls
 use Rattle.image.proofs.Modules.{was-refused, was-found, by-number}
@@ -5,40 +7,28 @@ use Rattle.image.proofs.Refusals.{not-found}
 use Rattle.image.proofs.Named.{step-refused}
 use Rattle.image.proofs.step.Statement.{statement}
 use Rattle.image.proofs.step.Tie as tie
-use Rattle.image.proofs.step.Reads as reads
-use Rattle.image.proofs.step.Lts as lts
-use Rattle.image.proofs.find.Reads as find-reads
-use Rattle.image.proofs.step_of.Reads as step-of-reads
 
--- src/lib.rt:276:9
 find-requires : tie.Need-find-requires
 find-requires c κs = search needs
 
--- src/lib.rt:278:24
 enum-known-found : tie.Need-enum-known-found
 enum-known-found c = search needs
 
--- src/lib.rt:279:23
 enum-known-found-2 : tie.Need-enum-known-found-2
 enum-known-found-2 c = search needs
 
--- src/lib.rt:279:29
 step-of-requires : tie.Need-step-of-requires
 step-of-requires c κs = was-found _ _ _ (c .before .before .before .before .find .ensures) _ (c .before .before .found2 .given .1)
 
--- src/lib.rt:273:1
 same-length : tie.Need-same-length
 same-length c = search needs
 
--- src/lib.rt:273:1
 returns : tie.Need-returns
 returns c = not-found _ _ _ _ (step-refused _ _) _ (was-refused _ _ _ (c .before .before .before .find .ensures) _ (c .before .found .given .1))
 
--- src/lib.rt:273:1
 same-length-2 : tie.Need-same-length-2
 same-length-2 c = search needs
 
--- src/lib.rt:273:1
 returns-2 : tie.Need-returns-2
 returns-2 c =
     by-number _ _ _ (c .before .before .before .before .before .before .before .find .ensures) Calls.step _ (c .before .before .before .before .before .found2 .given .1) (c .before .before .step-of .ensures)

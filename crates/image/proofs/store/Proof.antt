@@ -1,35 +1,27 @@
-use mathlib.Core.Path.{_∙_}
+-- What `store` leaves is the image of the table after the step, with an admission and without one.
+-- Assumes nothing.
 use native.Mathlib.Omega.{arith}
 use borrow.Author.Needs.{needs}
 use Rattle.image.proofs.Events.{other, room-for}
 use Rattle.image.proofs.Stored.{kept-put, admitted-put}
 use Rattle.image.proofs.store.Statement.{statement}
 use Rattle.image.proofs.store.Tie as tie
-use Rattle.image.proofs.store.Reads as reads
-use Rattle.image.proofs.store.Lts as lts
-use Rattle.image.proofs.admit.Reads as admit-reads
-use Rattle.image.proofs.put_parts.Reads as put-parts-reads
 
--- src/lib.rt:240:5
 put-parts-requires : tie.Need-put-parts-requires
 put-parts-requires c κs = search needs
 
--- src/lib.rt:245:25
 enum-known-event : tie.Need-enum-known-event
 enum-known-event c = search needs
 
--- src/lib.rt:245:31
 admit-requires : tie.Need-admit-requires
 admit-requires c κs =
     let start = c .before .before .before .before .before .before .before .before .before .before .before in
     let put = c .before .before .before .before .before .before .before .before .put-parts in
     omega (arith, put .kept .0, start .pre .0, room-for _ _ (start .args .m .frame .held) (c .before .before .event .given .1) (start .pre .1))
 
--- src/lib.rt:235:1
 same-length : tie.Need-same-length
 same-length c = search needs
 
--- src/lib.rt:235:1
 returns : tie.Need-returns
 returns c =
     let start = c .before .before .before .before .before .before .before .before .before .before .before .before .before .before in
@@ -38,11 +30,9 @@ returns c =
     let event = c .before .before .before .before .before .event in
     admitted-put _ _ _ (start .pre .0) (λ i. known .given i .fits) _ (put .ensures) (c .before .before .admit .ensures) (event .given .1) (room-for _ _ _ (event .given .1) (start .pre .1))
 
--- src/lib.rt:235:1
 same-length-2 : tie.Need-same-length-2
 same-length-2 c = search needs
 
--- src/lib.rt:235:1
 returns-2 : tie.Need-returns-2
 returns-2 c =
     let start = c .before .before .before .before .before .before .before .before in

@@ -1,40 +1,31 @@
+-- `two_at` is the definition's number of two bytes.
+-- Assumes nothing.
 use borrow.Author.Needs.{needs}
 use Rattle.layout.specs.Layout.{two}
 use Rattle.image.proofs.two_at.Statement.{statement}
 use Rattle.image.proofs.two_at.Tie as tie
-use Rattle.image.proofs.two_at.Reads as reads
-use Rattle.image.proofs.two_at.Lts as lts
-use Rattle.image.proofs.wide.Reads as wide-reads
 
--- src/lib.rt:38:16
 shared-slice-read-wide : tie.Need-shared-slice-read-wide
 shared-slice-read-wide c = search needs
 
--- src/lib.rt:38:11
 wide-requires : tie.Need-wide-requires
 wide-requires c κs = search needs
 
--- src/lib.rt:38:5
 mul-result : tie.Need-mul-result
 mul-result c = search needs
 
--- src/lib.rt:38:40
 add-wide : tie.Need-add-wide
 add-wide c = search needs
 
--- src/lib.rt:38:34
 shared-slice-read-wide-2 : tie.Need-shared-slice-read-wide-2
 shared-slice-read-wide-2 c = search needs
 
--- src/lib.rt:38:29
 wide-requires-2 : tie.Need-wide-requires-2
 wide-requires-2 c κs = search needs
 
--- src/lib.rt:38:5
 add-result : tie.Need-add-result
 add-result c = search needs
 
--- src/lib.rt:34:1
 returns : tie.Need-returns
 unfolding two
 returns c = cc
