@@ -1,4 +1,4 @@
--- What is copied over a list, or to its front.
+-- A copy over the whole of a list, and one copy behind another.
 -- Assumes nothing.
 use mathlib.Core.Path.{_≡_, sym, _∙_, ap, ap₂}
 use mathlib.Core.List.{List, _++_, append-assoc, append-nil}

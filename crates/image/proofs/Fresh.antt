@@ -1,16 +1,14 @@
 -- A fresh image, written record by record, then its log and its trailer; and what set-up says.
 -- Assumes nothing.
 use mathlib.Core.Path.{_≡_, refl, sym, _∙_, ap, ap₂}
-use mathlib.Core.Bool.{false, not}
+use mathlib.Core.Bool.{true, false, not}
 use mathlib.Core.List.{List, [], _∷_, _++_, append-nil}
 use Prim.Native.Nat.{ℕ, suc, _+_, _-_, _*_, _/_, _%_, _≤_, _<_}
 use native.Mathlib.Numerals.{add-one}
 use native.Mathlib.Omega.{arith}
 use borrow.Author.Tests.{le-leb, lt-leb}
-use lib.Dec.{leb}
 use lib.ListN.{length, take, length-append, drop-of-length-le}
 use lib.Seq.{paste, take-all}
-use Rattle.laws.proofs.Said.{no-right}
 use Rattle.stage.specs.Answers.{answerOf}
 use Rattle.stage.specs.Calls.{setUp, within, capacity, refusing, refusals, answered, after}
 use Rattle.stage.specs.Table.{Table, idle, untouched, freshTable}
@@ -21,7 +19,7 @@ use Rattle.layout.proofs.Changes.{length-record, length-records, length-log}
 use Rattle.image.specs.Call.{fits, refused, Does}
 use Rattle.image.specs.Inside.{given}
 use Rattle.image.proofs.Copies.{then-behind}
-use Rattle.image.proofs.Refusals.{refuses, accepts}
+use Rattle.image.proofs.Refusals.{in-range, refuses, accepts}
 
 -- one record more
 pub record-more : (d : List ℕ) (first n k : ℕ) {b fresh b′ : List ℕ} → first + 16 * (k + 1) ≤ length d → fresh ≡ recordOf idle untouched →
@@ -66,19 +64,15 @@ unfolding refused refusals
 asks b n = refl
 
 module _ (b : List ℕ) (n : ℕ) where
-  pub too-few : n < 1 → Does (setUp n) b (Refused 7) b
+  pub no-number : not (within 1 64 n) ≡ true → Does (setUp n) b (Refused 7) b
   unfolding given refusing
-  too-few h = refuses (setUp n) b 7 (ap given (asks b n) ∙ simp (lt-leb 1 n h))
-
-  pub too-many : 64 < n → Does (setUp n) b (Refused 7) b
-  unfolding given refusing
-  too-many h = refuses (setUp n) b 7 (ap given (asks b n) ∙ simp (no-right (leb 1 n) (leb n 64) (lt-leb n 64 h)))
+  no-number outside = refuses (setUp n) b 7 (ap given (asks b n) ∙ simp outside)
 
   module _ (least : 1 ≤ n) (most : n ≤ 64) where
     pub no-room : length b < lengthFor n → Does (setUp n) b (Refused 8) b
     unfolding given refusing
-    no-room h = refuses (setUp n) b 8 (ap given (asks b n) ∙ simp (le-leb 1 n least, le-leb n 64 most, lt-leb (lengthFor n) (length b) h))
+    no-room h = refuses (setUp n) b 8 (ap given (asks b n) ∙ simp (in-range 1 64 n least most, lt-leb (lengthFor n) (length b) h))
 
     pub sets-up : {b′ : List ℕ} → lengthFor n ≤ length b → b′ ≡ put (freshTable n) b → Does (setUp n) b (Answered (answerOf Done)) b′
     unfolding given refusing answered after
-    sets-up h put-is = accepts (setUp n) b (ap given (asks b n) ∙ simp (le-leb 1 n least, le-leb n 64 most, le-leb (lengthFor n) (length b) h)) refl put-is
+    sets-up h put-is = accepts (setUp n) b (ap given (asks b n) ∙ simp (in-range 1 64 n least most, le-leb (lengthFor n) (length b) h)) refl put-is

@@ -1,10 +1,11 @@
--- A module that was found, and what its step looks at.
+-- What a frame says of the log; a module that was found; and what its step looks at.
 -- Assumes nothing.
 use mathlib.Core.Path.{_≡_, sym, _∙_, ap, ap₂, subst, subst⁻¹}
 use mathlib.Core.List.{List}
 use mathlib.Core.Option.{some}
 use Prim.Native.Nat.{ℕ, _+_, _-_, _*_, _≤_}
 use native.Mathlib.Omega.{arith}
+use lib.ListN.{length}
 use Rattle.link.specs.Count.{next, size}
 use Rattle.stage.specs.Calls.{Call}
 use Rattle.stage.specs.Rows.{looksAt, stepped}
@@ -15,7 +16,7 @@ use Rattle.stage.specs.declared.Shared.{Shared}
 use Rattle.stage.specs.declared.Stepped.{Stepped}
 use Rattle.stage.proofs.SoundCalls.{looks-known}
 use Rattle.layout.specs.Layout.{modules, recordAt, privateAt, sharedAt, trailerAt, read, byte}
-use Rattle.layout.proofs.Rewritten.{private-read, shared-read}
+use Rattle.layout.proofs.Rewritten.{private-read, shared-read, length-held}
 use Rattle.image.specs.declared.Frame.{Frame}
 use Rattle.image.specs.declared.Module.{Module}
 use Rattle.image.specs.declared.Found.{Found}
@@ -23,6 +24,9 @@ use Rattle.image.specs.declared.Found.the-variants as found
 use Rattle.image.specs.Call.{Does}
 use Rattle.image.specs.Inside.{Framed, IsModule, given, unfound, Finds, Looks}
 use Rattle.image.proofs.Sound.{table}
+
+pub entries : (b : List ℕ) (f : Frame) → Framed b f → length (read b .log) ≡ f .held
+entries b f framed = length-held b (framed .fits) (framed .heldFits) ∙ sym (framed .held-is)
 
 pub is-module : (b : List ℕ) (f : Frame) (p at : ℕ) (me : Private) → Framed b f → 1 ≤ p → p ≤ f .n → at ≡ f .first + 16 * (p - 1) → me ≡ privateAt b at → IsModule b (record { frame = f; number = p; at = at; me = me })
 is-module b f p at me framed least most place same =

@@ -4,26 +4,25 @@ use mathlib.Core.Path.{_≡_, refl, sym, _∙_, ap}
 use mathlib.Core.Bool.{Bool, true, false, not, _&&_, _||_}
 use mathlib.Core.List.{List, [], _∷_, _++_}
 use mathlib.Core.Option.{none}
-use Prim.Native.Nat.{ℕ, _≤_, _<_}
-use borrow.Author.Tests.{ne-eqb, le-leb, lt-leb}
+use Prim.Native.Nat.{ℕ, _≤_}
+use borrow.Author.Tests.{ne-eqb}
 use lib.Dec.{eqb, leb}
 use lib.ListN.{length}
 use Rattle.link.specs.Count.{next, size}
-use Rattle.laws.proofs.Said.{no-right}
 use Rattle.stage.specs.Answers.{answerOf}
-use Rattle.stage.specs.Calls.{beginAcquisition, beginRelease, step, within, admits, capacity, refusing, refusals, answered, after}
+use Rattle.stage.specs.Calls.{Call, beginAcquisition, beginRelease, step, within, admits, capacity, refusing, refusals, answered, after}
 use Rattle.stage.specs.Table.{begunAcquisition, begunRelease, stepOf, afterStep}
 use Rattle.stage.specs.declared.Event.the-variants.{Done}
 use Rattle.stage.specs.declared.Private.{Private}
 use Rattle.stage.specs.declared.Stepped.{Stepped}
 use Rattle.stage.specs.declared.Reply.the-variants.{Refused, Answered}
 use Rattle.layout.specs.Layout.{held, read, put}
-use Rattle.layout.proofs.Rewritten.{length-held}
 use Rattle.image.specs.Call.{refused, Does}
 use Rattle.image.specs.Inside.{given, unfound, IsModule, Looks}
 use Rattle.image.specs.declared.Module.{Module}
 use Rattle.image.specs.declared.Looked.{Looked}
-use Rattle.image.proofs.Refusals.{refuses, accepts, found}
+use Rattle.image.proofs.Modules.{entries}
+use Rattle.image.proofs.Refusals.{in-range, refuses, accepts, found}
 
 -- what each asks of a module that was found
 abbrev acquisition-asks : List ℕ → ℕ → ℕ → List (Bool × ℕ)
@@ -57,31 +56,31 @@ module _ (b : List ℕ) (m : Module) (is : IsModule b m) where
   stage-is : read b .private p .stage ≡ m .me .stage
   stage-is = ap (λ (x : Private). x .stage) (sym (is .me-is))
 
+  -- past the search only what the call asks is left
+  asked : (c : Call) (es : List (Bool × ℕ)) → refused c b ≡ unfound b p ++ es → given (refused c b) ≡ given es
+  asked c es asks = found c b p es asks (is .framed .is) (is .least) (is .most)
+
   -- begin an acquisition
   module _ (r : ℕ) where
     acquisition-given : given (refused (beginAcquisition p r) b) ≡ given (acquisition-asks b p r)
-    acquisition-given = found (beginAcquisition p r) b p (acquisition-asks b p r) (acquisition-refused b p r) (is .framed .is) (is .least) (is .most)
+    acquisition-given = asked (beginAcquisition p r) (acquisition-asks b p r) (acquisition-refused b p r)
 
-    pub priority-below : r < 1 → Does (beginAcquisition p r) b (Refused 3) b
+    pub no-priority : not (within 1 254 r) ≡ true → Does (beginAcquisition p r) b (Refused 3) b
     unfolding given refusing
-    priority-below h = refuses (beginAcquisition p r) b 3 (acquisition-given ∙ simp (lt-leb 1 r h))
-
-    pub priority-above : 254 < r → Does (beginAcquisition p r) b (Refused 3) b
-    unfolding given refusing
-    priority-above h = refuses (beginAcquisition p r) b 3 (acquisition-given ∙ simp (no-right (leb 1 r) (leb r 254) (lt-leb r 254 h)))
+    no-priority outside = refuses (beginAcquisition p r) b 3 (acquisition-given ∙ simp outside)
 
     module _ (least : 1 ≤ r) (most : r ≤ 254) where
       pub not-idle : (m .me .stage ≡ 0 → ⊥) → Does (beginAcquisition p r) b (Refused 4) b
       unfolding given refusing
-      not-idle h = refuses (beginAcquisition p r) b 4 (acquisition-given ∙ simp (le-leb 1 r least, le-leb r 254 most, stage-is, ne-eqb _ _ h))
+      not-idle h = refuses (beginAcquisition p r) b 4 (acquisition-given ∙ simp (in-range 1 254 r least most, stage-is, ne-eqb _ _ h))
 
       pub acquires : {b′ : List ℕ} → m .me .stage ≡ 0 → b′ ≡ put (begunAcquisition (read b) p r) b → Does (beginAcquisition p r) b (Answered (answerOf Done)) b′
       unfolding given refusing answered after
-      acquires h put-is = accepts (beginAcquisition p r) b (acquisition-given ∙ simp (le-leb 1 r least, le-leb r 254 most, stage-is, h)) refl put-is
+      acquires h put-is = accepts (beginAcquisition p r) b (acquisition-given ∙ simp (in-range 1 254 r least most, stage-is, h)) refl put-is
 
   -- begin a release
   release-given : given (refused (beginRelease p) b) ≡ given (release-asks b p)
-  release-given = found (beginRelease p) b p (release-asks b p) (release-refused b p) (is .framed .is) (is .least) (is .most)
+  release-given = asked (beginRelease p) (release-asks b p) (release-refused b p)
 
   pub not-inside : (m .me .stage ≡ 13 → ⊥) → Does (beginRelease p) b (Refused 4) b
   unfolding given refusing
@@ -93,7 +92,7 @@ module _ (b : List ℕ) (m : Module) (is : IsModule b m) where
 
   -- take a step
   step-given : given (refused (step p) b) ≡ given (step-asks b p)
-  step-given = found (step p) b p (step-asks b p) (step-refused b p) (is .framed .is) (is .least) (is .most)
+  step-given = asked (step p) (step-asks b p) (step-refused b p)
 
   -- at 0 and 13 there is none
   pub no-step : (k : ℕ) → (eqb k 0 || eqb k 13) ≡ true → m .me .stage ≡ k → Does (step p) b (Refused 4) b
@@ -101,13 +100,10 @@ module _ (b : List ℕ) (m : Module) (is : IsModule b m) where
   no-step k none·k e = refuses (step p) b 4 (step-given ∙ simp (stage-is, e, none·k))
 
   module _ (l : Looked) (looks : Looks b m l) (neither : m .me .stage ≡ 0 → ⊥) (nor : m .me .stage ≡ 13 → ⊥) where
-    entries : length (read b .log) ≡ m .frame .held
-    entries = length-held b (is .framed .fits) (is .framed .heldFits) ∙ sym (is .framed .held-is)
-
     past-stage : (t : Bool) → (admits (l .stepped .answer .event) && leb capacity (m .frame .held)) ≡ t → given (refused (step p) b) ≡ given ((t, 5) ∷ [])
     unfolding given refusing
     past-stage t e =
-        step-given ∙ simp (stage-is, ne-eqb _ _ neither, ne-eqb _ _ nor, ← looks .stepped-is, entries, e)
+        step-given ∙ simp (stage-is, ne-eqb _ _ neither, ne-eqb _ _ nor, ← looks .stepped-is, entries b (m .frame) (is .framed), e)
 
     pub full : (admits (l .stepped .answer .event) && leb capacity (m .frame .held)) ≡ true → Does (step p) b (Refused 5) b
     unfolding given refusing

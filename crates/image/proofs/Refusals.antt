@@ -1,7 +1,7 @@
 -- Which refusal is given, and what a call does where one is and where none is.
 -- Assumes nothing.
 use mathlib.Core.Path.{_≡_, refl, sym, _∙_, ap}
-use mathlib.Core.Bool.{Bool, true, false, cond}
+use mathlib.Core.Bool.{Bool, true, false, not, cond}
 use mathlib.Core.List.{List, [], _∷_, _++_}
 use mathlib.Core.Option.{Option, none, some}
 use Prim.Native.Nat.{ℕ, _≤_, _<_}
@@ -9,7 +9,7 @@ use borrow.Author.Tests.{le-leb, lt-leb}
 use lib.Dec.{leb}
 use Rattle.laws.proofs.Said.{no-right}
 use Rattle.link.specs.Count.{next, size}
-use Rattle.stage.specs.Calls.{Call, refusing, answered, after}
+use Rattle.stage.specs.Calls.{Call, within, refusing, answered, after}
 use Rattle.stage.specs.declared.Reply.{Reply}
 use Rattle.stage.specs.declared.Reply.the-variants.{Refused, Answered}
 use Rattle.layout.specs.Layout.{modules, read, put}
@@ -24,7 +24,7 @@ module _ {A : Type 0} (no·k : ℕ → A) (yes·a : A) where
   by (some k) = no·k k
 
   by-given : (es : List (Bool × ℕ)) → refusing es no·k yes·a ≡ by (given es)
-  unfolding refusing given unfound
+  unfolding refusing given
   by-given [] = refl
   by-given (e ∷ es) = here (e .0) (by-given es)
     where
@@ -45,19 +45,26 @@ module _ (c : Call) (b : List ℕ) where
   unfolding reply image
   accepts g says leaves = record { says = says ∙ sym (chosen Refused _ (refused c b) none g); leaves = leaves ∙ sym (chosen (λ j. b) _ (refused c b) none g) }
 
+-- a number outside a range, and inside it
+module _ (a b x : ℕ) where
+  pub too-low : x < a → not (within a b x) ≡ true
+  too-low h = simp (lt-leb a x h)
+
+  pub too-high : b < x → not (within a b x) ≡ true
+  too-high h = ap not (no-right (leb a x) (leb x b) (lt-leb x b h))
+
+  pub in-range : a ≤ x → x ≤ b → not (within a b x) ≡ false
+  in-range low high = simp (le-leb a x low, le-leb x b high)
+
 -- what every call that names a module asks
 module _ (b : List ℕ) (p : ℕ) where
   pub unsound : sound b ≡ false → given (unfound b p) ≡ some 1
   unfolding refusing given unfound
   unsound no·b = simp no·b
 
-  pub below : sound b ≡ true → p < 1 → given (unfound b p) ≡ some 2
+  pub no-module : sound b ≡ true → not (within 1 (modules b) p) ≡ true → given (unfound b p) ≡ some 2
   unfolding refusing given unfound
-  below is h = simp (is, lt-leb 1 p h)
-
-  pub above : sound b ≡ true → modules b < p → given (unfound b p) ≡ some 2
-  unfolding refusing given unfound
-  above is h = simp (is, no-right (leb 1 p) (leb p (modules b)) (lt-leb p (modules b) h))
+  no-module is outside = simp (is, outside)
 
 -- a call that names module p asks that, and then es
 module _ (c : Call) (b : List ℕ) (p : ℕ) (es : List (Bool × ℕ)) (asks : refused c b ≡ unfound b p ++ es) where
@@ -67,4 +74,4 @@ module _ (c : Call) (b : List ℕ) (p : ℕ) (es : List (Bool × ℕ)) (asks : r
 
   pub found : sound b ≡ true → 1 ≤ p → p ≤ modules b → given (refused c b) ≡ given es
   unfolding refusing given unfound
-  found is least most = ap given asks ∙ simp (is, le-leb 1 p least, le-leb p (modules b) most)
+  found is least most = ap given asks ∙ simp (is, in-range 1 (modules b) p least most)

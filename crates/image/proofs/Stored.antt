@@ -25,6 +25,7 @@ use Rattle.image.specs.declared.Frame.{Frame}
 use Rattle.image.specs.declared.Module.{Module}
 use Rattle.image.specs.declared.Looked.{Looked}
 use Rattle.image.specs.Inside.{Framed, IsModule, Looks, partsPut}
+use Rattle.image.proofs.Modules.{entries}
 use Rattle.image.proofs.Sound.{written}
 
 -- b₁ is the image of a table, and b₂ has one part more stored
@@ -56,12 +57,9 @@ module _ (b : List ℕ) (is : sound b ≡ true) (bytes : (i : ℕ) → byte b i 
   at-first : b ≡ put (read b) b
   at-first = sym (put-read b (written b is) bytes)
 
-  entries : length (read b .log) ≡ held b
-  entries = length-held b (written b is .fits) (written b is .heldFits)
-
   room : Room (read b) b
   unfolding read
-  room = record { fits = written b is .fits; held = omega (arith, entries, written b is .heldFits) }
+  room = record { fits = written b is .fits; held = omega (arith, length-held b (written b is .fits) (written b is .heldFits), written b is .heldFits) }
 
   -- the log taken
   pub log-cleared : {zeros b₁ b₂ : List ℕ} (f : Frame) → Framed b f → zeros ≡ logOf [] → b₁ ≡ paste b (f .log) zeros capacity → b₂ ≡ puts b₁ (f .trailer) (lengthBytes 0) → b₂ ≡ put (logTaken (read b)) b
@@ -88,6 +86,7 @@ module _ (b : List ℕ) (m : Module) (is : IsModule b m) (bytes : (i : ℕ) → 
       (begun ∙ ap (λ (x : Private). goes 1 (withOwn r x)) (is .me-is))
       (its-is ∙ ap (λ (x : Shared). withPriority r x) (old-is ∙ ap (sharedAt b) (is .at-is) ∙ sym (shared-read b (m .number) (is .least) (is .most))))
 
+-- a step that admits nobody keeps the log
 kept : (log : List ℕ) (e : Event) → admits e ≡ false → logged log e ≡ log
 unfolding logged
 kept log Done no·e = refl
@@ -131,6 +130,6 @@ module _ (b : List ℕ) (m : Module) (l : Looked) (looks : Looks b m l) (bytes :
   unfolding parts left logged
   admitted-put k first second e h =
       let framed : Framed b (m .frame) = looks .is .framed in
-      then-logged left b (room b (looks .is .framed .is) bytes) (parts-put first) k (framed .log-is) (framed .trailer-is) (framed .held-is ∙ sym (entries b (looks .is .framed .is) bytes)) h second
+      then-logged left b (room b (looks .is .framed .is) bytes) (parts-put first) k (framed .log-is) (framed .trailer-is) (sym (entries b (m .frame) framed)) h second
       ∙ ap (λ (x : Event). put (withLog left (logged (read b .log) x)) b) (sym e)
       ∙ ap (λ (t : Table). put t b) after-is

@@ -17,22 +17,19 @@ use Rattle.stage.specs.declared.Answer.{Answer}
 use Rattle.stage.specs.declared.Event.the-variants.{Taken}
 use Rattle.stage.specs.declared.Reply.the-variants.{Refused, Answered}
 use Rattle.layout.specs.Layout.{held, logAt, read, put}
-use Rattle.layout.proofs.Rewritten.{length-held}
 use Rattle.soundness.specs.SoundImage.{sound}
 use Rattle.image.specs.declared.Frame.{Frame}
 use Rattle.image.specs.Call.{refused, buffer, Does}
 use Rattle.image.specs.Inside.{given, Framed}
+use Rattle.image.proofs.Modules.{entries}
 use Rattle.image.proofs.Refusals.{chosen, refuses, accepts}
 
 module _ (b : List ℕ) (f : Frame) (framed : Framed b f) where
-  entries : length (read b .log) ≡ f .held
-  entries = length-held b (framed .fits) (framed .heldFits) ∙ sym (framed .held-is)
-
   -- the entries go first into the buffer
   pub handed : (lent : List ℕ) {all lent′ : List ℕ} → all ≡ take capacity (drop (f .log) b) → lent′ ≡ paste lent 0 all (f .held) → lent′ ≡ read b .log ++ drop (length (read b .log)) lent
   unfolding read
   handed lent {all} all-is same =
-      let count : 0 + f .held ≡ length (read b .log) = omega (arith, entries) in
+      let count : 0 + f .held ≡ length (read b .log) = omega (arith, entries b f framed) in
       let log : take (f .held) all ≡ read b .log =
       ap₂ take (framed .held-is) (all-is ∙ ap (λ (i : ℕ). take capacity (drop i b)) (framed .log-is)) ∙ take-take (held b) capacity (drop (logAt b) b) (framed .heldFits) in
       same ∙ ap₂ (λ (x : List ℕ) (k : ℕ). x ++ drop k lent) log count

@@ -1,16 +1,17 @@
 -- `begin_acquisition_of` refuses a priority, then a stage; past both it stores the two parts begun.
 -- Assumes nothing.
 use borrow.Author.Needs.{needs}
-use Rattle.image.proofs.Named.{priority-below, priority-above, not-idle, acquires}
+use Rattle.image.proofs.Named.{no-priority, not-idle, acquires}
+use Rattle.image.proofs.Refusals.{too-low, too-high}
 use Rattle.image.proofs.Stored.{acquisition-begun}
 use Rattle.image.proofs.begin_acquisition_of.Statement.{statement}
 use Rattle.image.proofs.begin_acquisition_of.Tie as tie
 
 returns : tie.Need-returns
-returns c = priority-below _ _ (c .before .before .pre) _ (c .if1 .taken)
+returns c = no-priority _ _ (c .before .before .pre) _ (too-low _ _ _ (c .if1 .taken))
 
 returns-2 : tie.Need-returns-2
-returns-2 c = priority-above _ _ (c .before .before .before .pre) _ (c .if2 .taken)
+returns-2 c = no-priority _ _ (c .before .before .before .pre) _ (too-high _ _ _ (c .if2 .taken))
 
 returns-3 : tie.Need-returns-3
 returns-3 c = not-idle _ _ (c .before .before .before .before .pre) _ (c .before .before .if1 .left) (c .before .if2 .left) (c .if3 .taken)

@@ -3,9 +3,11 @@
 use mathlib.Core.Path.{refl}
 use native.Mathlib.Omega.{arith}
 use borrow.Author.Needs.{needs}
+use denote.Ref.{now}
 use Rattle.laws.proofs.Said.{said}
+use Rattle.layout.specs.Layout.{modules}
 use Rattle.image.proofs.Modules.{is-module}
-use Rattle.image.proofs.Refusals.{unsound, below, above}
+use Rattle.image.proofs.Refusals.{too-low, too-high, unsound, no-module}
 use Rattle.image.proofs.find.Statement.{statement}
 use Rattle.image.proofs.find.Tie as tie
 
@@ -19,13 +21,15 @@ frame-of-requires : tie.Need-frame-of-requires
 frame-of-requires c κs = search said
 
 returns-2 : tie.Need-returns-2
-returns-2 c = below _ _ (search said) (c .if2 .taken)
+returns-2 c = no-module _ _ (search said) (too-low _ _ _ (c .if2 .taken))
 
 cast-if3 : tie.Need-cast-if3
 cast-if3 c = search needs
 
 returns-3 : tie.Need-returns-3
-returns-3 c = above _ _ (search said) (omega arith)
+returns-3 c =
+    let start = c .before .before .before .before .before .before .args in
+    no-module _ _ (search said) (too-high 1 (modules (now (start .image))) (start .p) (omega arith))
 
 cast-number : tie.Need-cast-number
 cast-number c = search needs

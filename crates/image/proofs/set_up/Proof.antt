@@ -1,15 +1,16 @@
 -- `set_up` refuses a number, then a short buffer; past both it writes a fresh image.
 -- Assumes nothing.
 use borrow.Author.Needs.{needs}
-use Rattle.image.proofs.Fresh.{too-few, too-many, no-room, sets-up}
+use Rattle.image.proofs.Fresh.{no-number, no-room, sets-up}
+use Rattle.image.proofs.Refusals.{too-low, too-high}
 use Rattle.image.proofs.set_up.Statement.{statement}
 use Rattle.image.proofs.set_up.Tie as tie
 
 returns : tie.Need-returns
-returns c = too-few _ _ (c .if1 .taken)
+returns c = no-number _ _ (too-low _ _ _ (c .if1 .taken))
 
 returns-2 : tie.Need-returns-2
-returns-2 c = too-many _ _ (c .if2 .taken)
+returns-2 c = no-number _ _ (too-high _ _ _ (c .if2 .taken))
 
 mul-if3 : tie.Need-mul-if3
 mul-if3 c = search needs
