@@ -103,20 +103,23 @@ log-sound n p log Left low high o held entries room = (held, entries)
 log-sound n p log Finished low high o held entries room = (held, entries)
 log-sound n p log (Taken k) low high o held entries room = (held, entries)
 
+pub fresh-sound : (k : ℕ) → 1 ≤ k → k ≤ 64 → Soundly (freshTable k)
+unfolding freshTable idle untouched fresh each
+fresh-sound k some few =
+    record {
+      some = some;
+      few = few;
+      held = omega arith;
+      entries = refl;
+      lock = omega arith;
+      private = λ p low high. omega arith;
+      shared = λ p low high. omega arith;
+    }
+
 module _ (bump : ℕ → ℕ) (fits : ℕ → Bool) where
   pub accepted-sound : (c : Call) (t : Table) → Soundly t → Unrefused (refusals bump fits c t) → Soundly (after bump c t)
-  unfolding refusals after freshTable idle untouched fresh each begunAcquisition begunRelease stepOf afterStep logTaken
-  accepted-sound (setUp k) t s u =
-      let n = is-within 1 64 k (u .0) in
-      record {
-        some = n .0;
-        few = n .1;
-        held = omega arith;
-        entries = refl;
-        lock = omega arith;
-        private = λ p low high. omega arith;
-        shared = λ p low high. omega arith;
-      }
+  unfolding refusals after each begunAcquisition begunRelease stepOf afterStep logTaken
+  accepted-sound (setUp k) t s u = let n = is-within 1 64 k (u .0) in fresh-sound k (n .0) (n .1)
   accepted-sound (beginAcquisition p r) t s u =
       let k = is-within 1 (t .n) p (u .0) in
       let range = is-within 1 254 r (u .1 .0) in

@@ -1,0 +1,1 @@
+// No code: demand 3 and what follows from it, of images.
