@@ -1,0 +1,18 @@
+-- `admitted` is what the definition has: the module of an admission, 0 for all other events.
+-- Assumes nothing.
+use borrow.Author.Needs.{needs}
+use Rattle.desk.proofs.Others.{none-admitted}
+use Rattle.desk.proofs.admitted.Statement.{statement}
+use Rattle.desk.proofs.admitted.Tie as tie
+
+enum-known-event : tie.Need-enum-known-event
+enum-known-event c = search needs
+
+returns : tie.Need-returns
+returns c = search needs
+
+returns-2 : tie.Need-returns-2
+returns-2 c = none-admitted (c .before .args .event) (c .match .keys2)
+
+pub admitted-spec : {M : Type 1} → statement M
+admitted-spec = tie.close (tie.spec enum-known-event returns returns-2)
