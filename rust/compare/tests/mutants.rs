@@ -1,0 +1,1168 @@
+//! Proof that the comparison can fail: desks with one deliberate slip each, every one of which is
+//! caught within [`LIMIT`] calls, from each of several seeds.
+
+use compare::{drive, Desk, ReferenceDesk, Said};
+use reference::{Act, Place, Row, Rule, Rulebook, Value, When, Whose, RULES, STAGE_TABLE};
+
+/// Every mutant is caught within this many calls.
+const LIMIT: u64 = 50_000;
+const SEEDS: [u64; 3] = [1, 2, 3];
+
+// ---------------------------------------------------------------------------------------------
+// Two ways to make a mutant: another rulebook, or another function for one of the calls.
+
+/// The reference by another rulebook.
+struct Book {
+    name: String,
+    rules: Vec<Rule>,
+    rows: Vec<Row>,
+}
+
+impl Book {
+    fn rulebook(&self) -> Rulebook<'_> {
+        Rulebook {
+            rules: &self.rules,
+            rows: &self.rows,
+        }
+    }
+}
+
+impl Desk for Book {
+    fn name(&self) -> String {
+        self.name.clone()
+    }
+    fn set_up(&mut self, image: &mut [u8], n: u32) -> Said {
+        self.rulebook().set_up(image, n).into()
+    }
+    fn begin_acquisition(&mut self, image: &mut [u8], p: u32, priority: u32) -> Said {
+        self.rulebook().begin_acquisition(image, p, priority).into()
+    }
+    fn begin_release(&mut self, image: &mut [u8], p: u32) -> Said {
+        self.rulebook().begin_release(image, p).into()
+    }
+    fn step(&mut self, image: &mut [u8], p: u32) -> Said {
+        self.rulebook().step(image, p).into()
+    }
+    fn take_log(&mut self, image: &mut [u8], log: &mut [u8]) -> Said {
+        self.rulebook().take_log(image, log).into()
+    }
+}
+
+/// The reference with some calls replaced.
+#[derive(Clone, Copy)]
+struct Slip {
+    name: &'static str,
+    set_up: fn(&mut [u8], u32) -> Said,
+    begin_acquisition: fn(&mut [u8], u32, u32) -> Said,
+    begin_release: fn(&mut [u8], u32) -> Said,
+    step: fn(&mut [u8], u32) -> Said,
+    take_log: fn(&mut [u8], &mut [u8]) -> Said,
+}
+
+const NONE: Slip = Slip {
+    name: "no slip",
+    set_up: |image, n| reference::set_up(image, n).into(),
+    begin_acquisition: |image, p, priority| reference::begin_acquisition(image, p, priority).into(),
+    begin_release: |image, p| reference::begin_release(image, p).into(),
+    step: |image, p| reference::step(image, p).into(),
+    take_log: |image, log| reference::take_log(image, log).into(),
+};
+
+impl Desk for Slip {
+    fn name(&self) -> String {
+        self.name.into()
+    }
+    fn set_up(&mut self, image: &mut [u8], n: u32) -> Said {
+        (self.set_up)(image, n)
+    }
+    fn begin_acquisition(&mut self, image: &mut [u8], p: u32, priority: u32) -> Said {
+        (self.begin_acquisition)(image, p, priority)
+    }
+    fn begin_release(&mut self, image: &mut [u8], p: u32) -> Said {
+        (self.begin_release)(image, p)
+    }
+    fn step(&mut self, image: &mut [u8], p: u32) -> Said {
+        (self.step)(image, p)
+    }
+    fn take_log(&mut self, image: &mut [u8], log: &mut [u8]) -> Said {
+        (self.take_log)(image, log)
+    }
+}
+
+// ---------------------------------------------------------------------------------------------
+// Slips in the stage table.
+
+/// The stage table with all rows of these stages replaced.
+fn with_rows(name: &str, rows: &[Row]) -> Box<dyn Desk> {
+    let mut table: Vec<Row> = STAGE_TABLE
+        .iter()
+        .filter(|row| rows.iter().all(|new| new.stage != row.stage))
+        .copied()
+        .collect();
+    table.extend(rows);
+    Box::new(Book {
+        name: name.into(),
+        rules: RULES.to_vec(),
+        rows: table,
+    })
+}
+
+/// The stage table with this change made to its rows one by one.
+fn altered(name: &str, alter: impl Fn(&mut Row)) -> Box<dyn Desk> {
+    let mut rows = STAGE_TABLE.to_vec();
+    rows.iter_mut().for_each(alter);
+    assert!(rows != STAGE_TABLE, "{name} alters nothing");
+    Box::new(Book {
+        name: name.into(),
+        rules: RULES.to_vec(),
+        rows,
+    })
+}
+
+fn new_row(stage: u16, when: When, does: &'static [Act], next: u16, answer: u8) -> Row {
+    Row {
+        stage,
+        name: "",
+        when,
+        does,
+        next,
+        answer,
+    }
+}
+
+const S_LOCKED_0: Act = Act::Set(Place::Locked(Whose::S), Value::Number(0));
+const S_RAISED: Act = Act::Set(Place::RecordPriority(Whose::S), Value::Number(255));
+const LOCK_WORD_S: Act = Act::Set(Place::LockWord, Value::S);
+const OWN_0: Act = Act::Set(Place::OwnPriority, Value::Number(0));
+const PREV_W: Act = Act::Set(Place::Prev, Value::WPointer);
+const PREV_PRIORITY: Value = Value::RecordPriority(Whose::Prev);
+const W_PRIORITY: Value = Value::RecordPriority(Whose::WPointer);
+const OWN_RECORD: Value = Value::RecordPriority(Whose::Own);
+const NO_S: When = When::Is(Value::S, Value::Number(0));
+
+fn table_mutants() -> Vec<Box<dyn Desk>> {
+    vec![
+        altered("stage 5 does not write w when closed", |row| {
+            if row.stage == 5 && row.next == 1 {
+                row.does = &[];
+            }
+        }),
+        altered("a failed swap does not write w when closed", |row| {
+            if row.stage == 9 && row.next == 1 {
+                row.does = &[];
+            }
+        }),
+        altered("a failed swap does not write w when open", |row| {
+            if row.stage == 9 && row.next == 10 {
+                row.does = &[];
+            }
+        }),
+        with_rows(
+            "stands ahead of an equal",
+            &[
+                new_row(
+                    7,
+                    When::Below(Value::OwnPriority, W_PRIORITY),
+                    &[PREV_W],
+                    5,
+                    0,
+                ),
+                new_row(7, When::Else, &[], 8, 0),
+            ],
+        ),
+        with_rows(
+            "starts over behind an equal at stage 6",
+            &[
+                new_row(6, When::Below(PREV_PRIORITY, Value::OwnPriority), &[], 1, 0),
+                new_row(6, When::Is(PREV_PRIORITY, Value::OwnPriority), &[], 1, 0),
+                new_row(6, When::Is(Value::WPointer, Value::Number(0)), &[], 8, 0),
+                new_row(6, When::Else, &[], 7, 0),
+            ],
+        ),
+        with_rows(
+            "looks at w's pointer before prev's priority at stage 6",
+            &[
+                new_row(6, When::Is(Value::WPointer, Value::Number(0)), &[], 8, 0),
+                new_row(6, When::Below(PREV_PRIORITY, Value::OwnPriority), &[], 1, 0),
+                new_row(6, When::Else, &[], 7, 0),
+            ],
+        ),
+        altered("takes the own record's priority for own", |row| {
+            if row.when == When::Below(PREV_PRIORITY, Value::OwnPriority) {
+                row.when = When::Below(PREV_PRIORITY, OWN_RECORD);
+            }
+        }),
+        with_rows(
+            "stage 10 goes on whatever prev's priority is",
+            &[new_row(10, When::Always, &[], 5, 0)],
+        ),
+        with_rows(
+            "gives the link away while the record is closed: stage 11 left out",
+            &[
+                new_row(
+                    9,
+                    When::LinkIsW(Whose::Prev),
+                    &[Act::Swap(Whose::Prev, Value::ThisModule)],
+                    12,
+                    3,
+                ),
+                new_row(
+                    9,
+                    When::LinkClosed(Whose::Prev),
+                    &[Act::SetW(Whose::Prev)],
+                    1,
+                    0,
+                ),
+                new_row(9, When::Else, &[Act::SetW(Whose::Prev)], 10, 0),
+            ],
+        ),
+        with_rows(
+            "frees the successor before raising it",
+            &[
+                new_row(17, When::Always, &[S_LOCKED_0], 18, 0),
+                new_row(18, When::Always, &[S_RAISED, OWN_0], 0, 5),
+            ],
+        ),
+        with_rows(
+            "stores the lock word before closing",
+            &[
+                new_row(
+                    14,
+                    When::Always,
+                    &[Act::Set(Place::S, Value::OwnLinkPointer)],
+                    15,
+                    4,
+                ),
+                new_row(15, When::Always, &[LOCK_WORD_S], 16, 0),
+                new_row(16, NO_S, &[Act::Close(Whose::Own), OWN_0], 0, 5),
+                new_row(16, When::Else, &[Act::Close(Whose::Own)], 17, 0),
+            ],
+        ),
+        with_rows(
+            "return to idle clears the record priority",
+            &[new_row(
+                18,
+                When::Always,
+                &[
+                    S_LOCKED_0,
+                    OWN_0,
+                    Act::Set(Place::RecordPriority(Whose::Own), Value::Number(0)),
+                ],
+                0,
+                5,
+            )],
+        ),
+        with_rows(
+            "return to idle clears s",
+            &[new_row(
+                18,
+                When::Always,
+                &[S_LOCKED_0, OWN_0, Act::Set(Place::S, Value::Number(0))],
+                0,
+                5,
+            )],
+        ),
+        with_rows(
+            "return to idle without successor keeps own priority",
+            &[
+                new_row(16, NO_S, &[LOCK_WORD_S], 0, 5),
+                new_row(16, When::Else, &[LOCK_WORD_S], 17, 0),
+            ],
+        ),
+        with_rows(
+            "stage 16 stores the lock word only if it has a successor",
+            &[
+                new_row(16, NO_S, &[OWN_0], 0, 5),
+                new_row(16, When::Else, &[LOCK_WORD_S], 17, 0),
+            ],
+        ),
+        with_rows(
+            "raises the successor to 254",
+            &[new_row(
+                17,
+                When::Always,
+                &[Act::Set(
+                    Place::RecordPriority(Whose::S),
+                    Value::Number(254),
+                )],
+                18,
+                0,
+            )],
+        ),
+        with_rows(
+            "raises itself on taking the free lock",
+            &[new_row(
+                3,
+                When::Always,
+                &[
+                    Act::Open(Whose::Own),
+                    Act::Set(Place::RecordPriority(Whose::Own), Value::Number(255)),
+                    Act::LogAdmission,
+                ],
+                13,
+                2,
+            )],
+        ),
+        with_rows(
+            "stage 3 clears Locked",
+            &[new_row(
+                3,
+                When::Always,
+                &[
+                    Act::Open(Whose::Own),
+                    Act::Set(Place::Locked(Whose::Own), Value::Number(0)),
+                    Act::LogAdmission,
+                ],
+                13,
+                2,
+            )],
+        ),
+        altered("a join answers 0 at stage 2", |row| {
+            if row.stage == 2 {
+                row.answer = 0;
+            }
+        }),
+        altered("a release without successor answers 4 at its end", |row| {
+            if row.stage == 16 && row.next == 0 {
+                row.answer = 4;
+            }
+        }),
+        altered("stage 1 is left out on the way back from stage 5", |row| {
+            if row.stage == 5 && row.next == 1 {
+                row.next = 2;
+            }
+        }),
+    ]
+}
+
+// ---------------------------------------------------------------------------------------------
+// Slips in the rules of a sound image.
+
+fn with_rules(name: String, rules: Vec<Rule>) -> Box<dyn Desk> {
+    Box::new(Book {
+        name,
+        rules,
+        rows: STAGE_TABLE.to_vec(),
+    })
+}
+
+fn with_rule(name: &str, old: &str, kept: fn(&reference::Sheet) -> bool) -> Box<dyn Desk> {
+    let mut rules = RULES.to_vec();
+    let place = rules.iter().position(|rule| rule.name == old).unwrap();
+    rules[place].kept = kept;
+    with_rules(name.into(), rules)
+}
+
+fn at_stages(
+    sheet: &reference::Sheet,
+    stages: std::ops::RangeInclusive<u16>,
+    field: reference::Field,
+    fits: impl Fn(u16) -> bool,
+) -> bool {
+    sheet
+        .column(reference::Field::Stage)
+        .iter()
+        .zip(sheet.column(field))
+        .all(|(stage, number)| !stages.contains(stage) || fits(*number))
+}
+
+fn rule_mutants() -> Vec<Box<dyn Desk>> {
+    use reference::Field;
+    // Each rule left out in turn, among them "the rest of the log is 0".
+    let mut mutants: Vec<Box<dyn Desk>> = RULES
+        .iter()
+        .map(|left_out| {
+            let rules = RULES
+                .iter()
+                .filter(|rule| rule.name != left_out.name)
+                .copied()
+                .collect();
+            with_rules(format!("not checked: {}", left_out.name), rules)
+        })
+        .collect();
+    mutants.extend([
+        with_rule(
+            "own priority 255 allowed",
+            "own priority is 1 to 254 elsewhere",
+            |sheet| at_stages(sheet, 1..=255, Field::OwnPriority, |own| own != 0),
+        ),
+        with_rule(
+            "own priority 254 not allowed",
+            "own priority is 1 to 254 elsewhere",
+            |sheet| {
+                at_stages(sheet, 1..=255, Field::OwnPriority, |own| {
+                    (1..=253).contains(&own)
+                })
+            },
+        ),
+        with_rule("stage 19 allowed", "stage is 0 to 18", |sheet| {
+            at_stages(sheet, 0..=255, Field::Stage, |stage| stage <= 19)
+        }),
+        with_rule(
+            "prev may be 0 at stage 4",
+            "prev isn't 0 at stages 4 to 10",
+            |sheet| at_stages(sheet, 5..=10, Field::Prev, |prev| prev != 0),
+        ),
+        with_rule(
+            "prev may be 0 at stage 10",
+            "prev isn't 0 at stages 4 to 10",
+            |sheet| at_stages(sheet, 4..=9, Field::Prev, |prev| prev != 0),
+        ),
+        with_rule(
+            "prev must not be 0 at stage 11 either",
+            "prev isn't 0 at stages 4 to 10",
+            |sheet| at_stages(sheet, 4..=11, Field::Prev, |prev| prev != 0),
+        ),
+        with_rule(
+            "w's pointer must not be 0 at stage 8 either",
+            "w's pointer isn't 0 at stage 7",
+            |sheet| at_stages(sheet, 7..=8, Field::WPointer, |pointer| pointer != 0),
+        ),
+        with_rule(
+            "s may be 0 at stage 18",
+            "s isn't 0 at stages 17 and 18",
+            |sheet| at_stages(sheet, 17..=17, Field::S, |s| s != 0),
+        ),
+        with_rule(
+            "s must not be 0 at stage 16 either",
+            "s isn't 0 at stages 17 and 18",
+            |sheet| at_stages(sheet, 16..=18, Field::S, |s| s != 0),
+        ),
+        with_rule(
+            "a log of 256 not allowed",
+            "log length is 0 to 256",
+            |sheet| sheet.log_length() <= 255,
+        ),
+        with_rule(
+            "a closed w not allowed at stages 6 to 10",
+            "w's mark is 0 or 1",
+            |sheet| {
+                at_stages(sheet, 0..=255, Field::WMark, |mark| mark <= 1)
+                    && at_stages(sheet, 6..=10, Field::WMark, |mark| mark == 0)
+            },
+        ),
+        with_rule("n up to 63", "n is 1 to 64", |sheet| {
+            !sheet.has_trailer() || (1..=63).contains(&sheet.n())
+        }),
+    ]);
+    mutants
+}
+
+// ---------------------------------------------------------------------------------------------
+// Slips in the handling of bytes and numbers.
+
+const STAGE: usize = 0;
+const PREV: usize = 2;
+const W_POINTER: usize = 3;
+const W_MARK: usize = 4;
+const W_COUNT: usize = 6;
+const LINK_POINTER: usize = 8;
+const LINK_MARK: usize = 9;
+const LINK_COUNT: usize = 10;
+
+/// Where a module's record lies, and its stage, if the image is sound and has the module.
+fn find(image: &[u8], p: u32) -> Option<(usize, u8)> {
+    if !reference::is_sound(image) {
+        return None;
+    }
+    let n = u32::from(image[image.len() - 9]);
+    if !(1..=n).contains(&p) {
+        return None;
+    }
+    let at = record_at(image, p);
+    Some((at, image[at + STAGE]))
+}
+
+/// Where a module's record lies in a sound image.
+fn record_at(image: &[u8], p: u32) -> usize {
+    let n = u32::from(image[image.len() - 9]);
+    image.len() - 268 - 16 * (n + 1 - p) as usize
+}
+
+fn count_at(image: &[u8], at: usize) -> u16 {
+    u16::from_be_bytes([image[at], image[at + 1]])
+}
+
+fn put_count(image: &mut [u8], at: usize, count: u16) {
+    image[at..at + 2].copy_from_slice(&count.to_be_bytes());
+}
+
+/// A step before which w is made to look like prev's link in some bytes, if it is at stage 9, and
+/// after which a remembered w is put right again.
+fn careless_swap(image: &mut [u8], p: u32, bytes: &[(usize, usize)]) -> Said {
+    let Some((at, 9)) = find(image, p) else {
+        return (NONE.step)(image, p);
+    };
+    let prev = record_at(image, u32::from(image[at + PREV]));
+    let w = image[at + W_POINTER..at + W_COUNT + 2].to_vec();
+    for (w_byte, link_byte) in bytes {
+        image[at + w_byte] = image[prev + link_byte];
+    }
+    let said = (NONE.step)(image, p);
+    if said.number == 3 {
+        image[at + W_POINTER..at + W_COUNT + 2].copy_from_slice(&w);
+    }
+    said
+}
+
+/// A step after which every link count that a step changed is reckoned anew.
+fn other_count(image: &mut [u8], p: u32, reckon: fn(u16) -> u16) -> Said {
+    let before = image.to_vec();
+    let said = (NONE.step)(image, p);
+    if find(&before, p).is_some() {
+        let n = u32::from(image[image.len() - 9]);
+        for module in 1..=n {
+            let at = record_at(image, module) + LINK_COUNT;
+            let count = count_at(&before, at);
+            if count != count_at(image, at) {
+                put_count(image, at, reckon(count));
+            }
+        }
+    }
+    said
+}
+
+/// A step after which the own link's count goes back, if the step changed nothing else of it.
+fn idle_changes_free(image: &mut [u8], p: u32, stages: &[u8]) -> Said {
+    let found = find(image, p);
+    let before = image.to_vec();
+    let said = (NONE.step)(image, p);
+    if let Some((at, stage)) = found {
+        let link = at + LINK_POINTER..at + LINK_COUNT;
+        if stages.contains(&stage) && before[link.clone()] == image[link] {
+            put_count(image, at + LINK_COUNT, count_at(&before, at + LINK_COUNT));
+        }
+    }
+    said
+}
+
+/// A step with these trailer bytes taken for this value.
+fn blind_to(image: &mut [u8], bytes: &[usize], call: impl FnOnce(&mut [u8]) -> Said) -> Said {
+    let Some(trailer) = image.len().checked_sub(12) else {
+        return call(image);
+    };
+    let kept: Vec<u8> = bytes.iter().map(|byte| image[trailer + byte]).collect();
+    for byte in bytes {
+        image[trailer + byte] = 0;
+    }
+    let said = call(image);
+    for (byte, value) in bytes.iter().zip(kept) {
+        image[trailer + byte] = value;
+    }
+    said
+}
+
+fn byte_mutants() -> Vec<Slip> {
+    vec![
+        Slip {
+            name: "swap compares pointer and mark only",
+            step: |image, p| {
+                careless_swap(
+                    image,
+                    p,
+                    &[(W_COUNT, LINK_COUNT), (W_COUNT + 1, LINK_COUNT + 1)],
+                )
+            },
+            ..NONE
+        },
+        Slip {
+            name: "swap compares the count's low byte only",
+            step: |image, p| careless_swap(image, p, &[(W_COUNT, LINK_COUNT)]),
+            ..NONE
+        },
+        Slip {
+            name: "swap compares mark and count only",
+            step: |image, p| careless_swap(image, p, &[(W_POINTER, LINK_POINTER)]),
+            ..NONE
+        },
+        Slip {
+            name: "swap compares pointer and count only",
+            step: |image, p| careless_swap(image, p, &[(W_MARK, LINK_MARK)]),
+            ..NONE
+        },
+        Slip {
+            name: "swap fails where w is closed",
+            step: |image, p| match find(image, p) {
+                Some((at, 9)) if image[at + W_MARK] == 1 => {
+                    let prev = record_at(image, u32::from(image[at + PREV]));
+                    let found = image[prev + LINK_POINTER..prev + LINK_COUNT + 2].to_vec();
+                    image[at + W_POINTER] = found[0];
+                    image[at + W_MARK] = found[1];
+                    image[at + W_COUNT..at + W_COUNT + 2].copy_from_slice(&found[2..]);
+                    image[at + STAGE] = if found[1] == 1 { 1 } else { 10 };
+                    Said::answered(0)
+                }
+                _ => (NONE.step)(image, p),
+            },
+            ..NONE
+        },
+        Slip {
+            name: "failed swap bumps the count",
+            step: |image, p| {
+                let found = find(image, p);
+                let said = (NONE.step)(image, p);
+                if let Some((at, 9)) = found {
+                    if said.number == 0 {
+                        let prev = record_at(image, u32::from(image[at + PREV]));
+                        let count = count_at(image, prev + LINK_COUNT).wrapping_add(1);
+                        put_count(image, prev + LINK_COUNT, count);
+                    }
+                }
+                said
+            },
+            ..NONE
+        },
+        Slip {
+            name: "successful swap keeps a closed mark",
+            step: |image, p| {
+                let before = image.to_vec();
+                let said = (NONE.step)(image, p);
+                if let Some((at, 9)) = find(&before, p) {
+                    let prev = record_at(image, u32::from(before[at + PREV]));
+                    image[prev + LINK_MARK] = before[prev + LINK_MARK];
+                }
+                said
+            },
+            ..NONE
+        },
+        Slip {
+            name: "count does not wrap: it stays at 65,535",
+            step: |image, p| other_count(image, p, |count| count.saturating_add(1)),
+            ..NONE
+        },
+        Slip {
+            name: "count wraps to 1",
+            step: |image, p| {
+                other_count(
+                    image,
+                    p,
+                    |count| if count == 65_535 { 1 } else { count + 1 },
+                )
+            },
+            ..NONE
+        },
+        Slip {
+            name: "count's low byte does not carry",
+            step: |image, p| {
+                other_count(image, p, |count| {
+                    count & 0xff00 | count.wrapping_add(1) & 0xff
+                })
+            },
+            ..NONE
+        },
+        Slip {
+            name: "pointing where it pointed already is no change",
+            step: |image, p| idle_changes_free(image, p, &[1, 8]),
+            ..NONE
+        },
+        Slip {
+            name: "opening what is open already is no change",
+            step: |image, p| idle_changes_free(image, p, &[3, 11]),
+            ..NONE
+        },
+        Slip {
+            name: "closing what is closed already is no change",
+            step: |image, p| idle_changes_free(image, p, &[14]),
+            ..NONE
+        },
+        Slip {
+            name: "stage 1 closes the mark",
+            step: |image, p| {
+                let found = find(image, p);
+                let said = (NONE.step)(image, p);
+                if let Some((at, 1)) = found {
+                    image[at + LINK_MARK] = 1;
+                }
+                said
+            },
+            ..NONE
+        },
+        Slip {
+            name: "stage 8 opens the mark",
+            step: |image, p| {
+                let found = find(image, p);
+                let said = (NONE.step)(image, p);
+                if let Some((at, 8)) = found {
+                    image[at + LINK_MARK] = 0;
+                }
+                said
+            },
+            ..NONE
+        },
+        Slip {
+            name: "w's mark is coded the other way round",
+            step: |image, p| {
+                let before = find(image, p);
+                let said = (NONE.step)(image, p);
+                if let Some((at, 5 | 9)) = before {
+                    if said.number == 0 {
+                        image[at + W_MARK] ^= 1;
+                    }
+                }
+                said
+            },
+            ..NONE
+        },
+        Slip {
+            name: "refusal 4 before 3",
+            begin_acquisition: |image, p, priority| match find(image, p) {
+                Some((_, stage)) if stage != 0 => Said::refused(4),
+                _ => (NONE.begin_acquisition)(image, p, priority),
+            },
+            ..NONE
+        },
+        Slip {
+            name: "refusal 3 before 2",
+            begin_acquisition: |image, p, priority| {
+                if reference::is_sound(image) && !(1..=254).contains(&priority) {
+                    Said::refused(3)
+                } else {
+                    (NONE.begin_acquisition)(image, p, priority)
+                }
+            },
+            ..NONE
+        },
+        Slip {
+            name: "refusal 3 before 1",
+            begin_acquisition: |image, p, priority| {
+                if (1..=254).contains(&priority) {
+                    (NONE.begin_acquisition)(image, p, priority)
+                } else {
+                    Said::refused(3)
+                }
+            },
+            ..NONE
+        },
+        Slip {
+            name: "refusal 8 before 7",
+            set_up: |image, n| {
+                if (image.len() as u64) < reference::table_length(n) {
+                    Said::refused(8)
+                } else {
+                    (NONE.set_up)(image, n)
+                }
+            },
+            ..NONE
+        },
+        Slip {
+            name: "refusal 6 before 1",
+            take_log: |image, log| {
+                let held = image
+                    .len()
+                    .checked_sub(8)
+                    .map_or(0, |at| count_at(image, at));
+                if log.len() < usize::from(held) {
+                    Said::refused(6)
+                } else {
+                    (NONE.take_log)(image, log)
+                }
+            },
+            ..NONE
+        },
+        Slip {
+            name: "a refused begin acquisition writes the record priority all the same",
+            begin_acquisition: |image, p, priority| {
+                let said = (NONE.begin_acquisition)(image, p, priority);
+                if said == Said::refused(4) {
+                    let at = record_at(image, p);
+                    image[at + 12] = priority as u8;
+                }
+                said
+            },
+            ..NONE
+        },
+        Slip {
+            name: "begin acquisition does not write the record priority",
+            begin_acquisition: |image, p, priority| {
+                let before = image.to_vec();
+                let said = (NONE.begin_acquisition)(image, p, priority);
+                if !said.refused {
+                    let at = record_at(image, p) + 12;
+                    image[at] = before[at];
+                }
+                said
+            },
+            ..NONE
+        },
+        Slip {
+            name: "priority is cut to a byte",
+            begin_acquisition: |image, p, priority| {
+                (NONE.begin_acquisition)(image, p, priority & 0xff)
+            },
+            ..NONE
+        },
+        Slip {
+            name: "module number is cut to a byte",
+            step: |image, p| (NONE.step)(image, p & 0xff),
+            ..NONE
+        },
+        Slip {
+            name: "n is cut to a byte",
+            set_up: |image, n| (NONE.set_up)(image, n & 0xff),
+            ..NONE
+        },
+        Slip {
+            name: "set-up reckons in 32 bits and looks at the length first",
+            set_up: |image, n| {
+                let needed = n.wrapping_mul(16).wrapping_add(268);
+                if (image.len() as u64) < u64::from(needed) {
+                    Said::refused(8)
+                } else {
+                    (NONE.set_up)(image, n)
+                }
+            },
+            ..NONE
+        },
+        Slip {
+            name: "the last module is unknown",
+            begin_release: |image, p| {
+                let n = image
+                    .len()
+                    .checked_sub(9)
+                    .map_or(0, |at| u32::from(image[at]));
+                if reference::is_sound(image) && p == n {
+                    Said::refused(2)
+                } else {
+                    (NONE.begin_release)(image, p)
+                }
+            },
+            ..NONE
+        },
+        Slip {
+            name: "release can begin at stage 12",
+            begin_release: |image, p| match find(image, p) {
+                Some((at, 12)) => {
+                    image[at] = 14;
+                    Said::answered(0)
+                }
+                _ => (NONE.begin_release)(image, p),
+            },
+            ..NONE
+        },
+        Slip {
+            name: "set-up touches owner's bytes",
+            set_up: |image, n| {
+                let said = (NONE.set_up)(image, n);
+                if !said.refused {
+                    let owner = image.len() - reference::table_length(n) as usize;
+                    image[..owner].fill(0);
+                }
+                said
+            },
+            ..NONE
+        },
+        Slip {
+            name: "set-up puts the table at the front",
+            set_up: |image, n| {
+                let length = reference::table_length(n).min(image.len() as u64) as usize;
+                (NONE.set_up)(&mut image[..length], n)
+            },
+            ..NONE
+        },
+        Slip {
+            name: "set-up goes on with the counts of an earlier table",
+            set_up: |image, n| {
+                let before = image.to_vec();
+                let said = (NONE.set_up)(image, n);
+                if !said.refused && find(&before, n).is_some() {
+                    let at = record_at(image, n) + LINK_COUNT;
+                    put_count(image, at, count_at(&before, at));
+                }
+                said
+            },
+            ..NONE
+        },
+        Slip {
+            name: "set-up leaves the log bytes",
+            set_up: |image, n| {
+                let before = image.to_vec();
+                let said = (NONE.set_up)(image, n);
+                if !said.refused {
+                    let log = image.len() - 268;
+                    image[log..log + 256].copy_from_slice(&before[log..log + 256]);
+                }
+                said
+            },
+            ..NONE
+        },
+        Slip {
+            name: "set-up opens the links",
+            set_up: |image, n| {
+                let said = (NONE.set_up)(image, n);
+                if !said.refused {
+                    let at = record_at(image, 1);
+                    image[at + LINK_MARK] = 0;
+                }
+                said
+            },
+            ..NONE
+        },
+        Slip {
+            name: "take_log clears only the entries",
+            take_log: |image, log| {
+                let before = image.to_vec();
+                let said = (NONE.take_log)(image, log);
+                if !said.refused {
+                    let at = image.len() - 8;
+                    put_count(image, at, count_at(&before, at));
+                }
+                said
+            },
+            ..NONE
+        },
+        Slip {
+            name: "take_log clears only the length",
+            take_log: |image, log| {
+                let before = image.to_vec();
+                let said = (NONE.take_log)(image, log);
+                if !said.refused {
+                    let at = image.len() - 268;
+                    image[at..at + 256].copy_from_slice(&before[at..at + 256]);
+                }
+                said
+            },
+            ..NONE
+        },
+        Slip {
+            name: "take_log leaves the last of 256 entries",
+            take_log: |image, log| {
+                let before = image.to_vec();
+                let said = (NONE.take_log)(image, log);
+                if said.length == 256 {
+                    let at = image.len() - 13;
+                    image[at] = before[at];
+                }
+                said
+            },
+            ..NONE
+        },
+        Slip {
+            name: "take_log clears the rest of the buffer",
+            take_log: |image, log| {
+                let said = (NONE.take_log)(image, log);
+                if !said.refused {
+                    log[said.length as usize..].fill(0);
+                }
+                said
+            },
+            ..NONE
+        },
+        Slip {
+            name: "take_log writes what fits into a short buffer",
+            take_log: |image, log| {
+                let said = (NONE.take_log)(image, log);
+                if said == Said::refused(6) {
+                    let at = image.len() - 268;
+                    log.copy_from_slice(&image[at..at + log.len()]);
+                }
+                said
+            },
+            ..NONE
+        },
+        Slip {
+            name: "take_log wants a byte to spare",
+            take_log: |image, log| {
+                let short = log.len().saturating_sub(1);
+                let held = image
+                    .len()
+                    .checked_sub(8)
+                    .map_or(0, |at| count_at(image, at));
+                if reference::is_sound(image) && short < usize::from(held) {
+                    Said::refused(6)
+                } else {
+                    (NONE.take_log)(image, log)
+                }
+            },
+            ..NONE
+        },
+        Slip {
+            name: "take_log does not tell the length",
+            take_log: |image, log| Said {
+                length: 0,
+                ..(NONE.take_log)(image, log)
+            },
+            ..NONE
+        },
+        Slip {
+            name: "an admission does not tell the module",
+            step: |image, p| Said {
+                module: 0,
+                ..(NONE.step)(image, p)
+            },
+            ..NONE
+        },
+        Slip {
+            name: "the log is full at 255",
+            step: |image, p| {
+                let mut trial = image.to_vec();
+                let said = (NONE.step)(&mut trial, p);
+                if said.number == 2 && !said.refused && count_at(&trial, trial.len() - 8) == 256 {
+                    return Said::refused(5);
+                }
+                image.copy_from_slice(&trial);
+                said
+            },
+            ..NONE
+        },
+        Slip {
+            name: "a full log refuses waiting too",
+            step: |image, p| match find(image, p) {
+                Some((_, 12)) if count_at(image, image.len() - 8) == 256 => Said::refused(5),
+                _ => (NONE.step)(image, p),
+            },
+            ..NONE
+        },
+        Slip {
+            name: "an admission in a full log is let in and not logged",
+            step: |image, p| {
+                let said = (NONE.step)(image, p);
+                if said == Said::refused(5) {
+                    let at = record_at(image, p);
+                    image[at] = 13;
+                    return Said {
+                        module: p,
+                        ..Said::answered(2)
+                    };
+                }
+                said
+            },
+            ..NONE
+        },
+        Slip {
+            name: "n is read from one byte",
+            step: |image, p| blind_to(image, &[2], |image| (NONE.step)(image, p)),
+            ..NONE
+        },
+        Slip {
+            name: "distance is read from two bytes",
+            step: |image, p| blind_to(image, &[8, 9], |image| (NONE.step)(image, p)),
+            ..NONE
+        },
+        Slip {
+            name: "trailer byte 7 is not looked at",
+            step: |image, p| blind_to(image, &[7], |image| (NONE.step)(image, p)),
+            ..NONE
+        },
+        Slip {
+            name: "owner's bytes make the image unsound",
+            begin_release: |image, p| {
+                let said = (NONE.begin_release)(image, p);
+                let n = image
+                    .len()
+                    .checked_sub(9)
+                    .map_or(0, |at| u32::from(image[at]));
+                if said != Said::refused(1) && image.len() as u64 > reference::table_length(n) {
+                    if !said.refused {
+                        let at = record_at(image, p);
+                        image[at] = 13;
+                    }
+                    return Said::refused(1);
+                }
+                said
+            },
+            ..NONE
+        },
+        Slip {
+            name: "panics on a buffer shorter than a trailer",
+            step: |image, p| {
+                assert!(image.len() >= 12, "deliberate");
+                (NONE.step)(image, p)
+            },
+            ..NONE
+        },
+        Slip {
+            name: "one that never writes",
+            step: |image, p| (NONE.step)(&mut image.to_vec(), p),
+            ..NONE
+        },
+        Slip {
+            name: "one that always answers 0",
+            step: |_, _| Said::answered(0),
+            ..NONE
+        },
+        Slip {
+            name: "one that refuses everything",
+            step: |_, _| Said::refused(1),
+            ..NONE
+        },
+    ]
+}
+
+// ---------------------------------------------------------------------------------------------
+
+/// Keep the panics of mutants, which are caught and reported as differences, off the output.
+fn quiet_about_mutants() {
+    let usual = std::panic::take_hook();
+    std::panic::set_hook(Box::new(move |info| {
+        let of_a_mutant = info.location().is_some_and(|location| {
+            location.file().contains("reference") || location.file().contains("core")
+        });
+        let deliberate = info.payload().downcast_ref::<&str>() == Some(&"deliberate");
+        if !of_a_mutant && !deliberate {
+            usual(info);
+        }
+    }));
+}
+
+#[test]
+fn every_mutant_is_caught() {
+    quiet_about_mutants();
+    let mut mutants = table_mutants();
+    mutants.extend(rule_mutants());
+    for slip in byte_mutants() {
+        mutants.push(Box::new(slip));
+    }
+    let mut missed = Vec::new();
+    let mut slowest = 0;
+    for mutant in &mut mutants {
+        let mut caught = Vec::new();
+        for seed in SEEDS {
+            match drive(&mut ReferenceDesk, mutant.as_mut(), seed, LIMIT) {
+                Ok(_) => missed.push(format!("{} (seed {seed})", mutant.name())),
+                Err(difference) => {
+                    caught.push(difference.at_call);
+                    slowest = slowest.max(difference.at_call);
+                }
+            }
+        }
+        println!("{caught:?}  {}", mutant.name());
+    }
+    println!(
+        "{} mutants, the slowest caught at call {slowest}",
+        mutants.len()
+    );
+    assert!(missed.is_empty(), "never caught: {missed:#?}");
+}
+
+#[test]
+fn without_a_slip_nothing_is_caught() {
+    let mut none = NONE;
+    drive(&mut ReferenceDesk, &mut none, 4, LIMIT).unwrap();
+    let mut book = Book {
+        name: "document 01".into(),
+        rules: RULES.to_vec(),
+        rows: STAGE_TABLE.to_vec(),
+    };
+    drive(&mut ReferenceDesk, &mut book, 5, LIMIT).unwrap();
+}
+
+#[test]
+fn an_account_is_short_and_names_what_differs() {
+    let mut mutants = byte_mutants();
+    let slip = mutants
+        .iter_mut()
+        .find(|slip| slip.name == "failed swap bumps the count")
+        .unwrap();
+    let difference = drive(&mut ReferenceDesk, slip, 1, LIMIT).unwrap_err();
+    let account = difference.to_string();
+    println!("{account}");
+    for part in [
+        "stage 9",
+        "reference: answered 0",
+        "failed swap bumps the count: answered 0",
+        "link count, record byte 11",
+    ] {
+        assert!(account.contains(part), "{part:?} is not in\n{account}");
+    }
+    assert!(account.lines().count() <= 10, "{account}");
+}

@@ -1,0 +1,13 @@
+//! Hold the archive against the reference.
+//!
+//! `outside [--seed S] [--calls N]` drives both over at least N calls of the cases of seed S, as the
+//! program `compare` does with the plain desk.
+
+use std::process::ExitCode;
+
+fn main() -> ExitCode {
+    compare::run(
+        &mut compare::ReferenceDesk,
+        &mut outside::ArchiveDesk::default(),
+    )
+}
