@@ -451,7 +451,7 @@ fn sound_link(n: u8, l: Link) -> bool
 }
 
 // Whether x lies between the two.
-pub fn is_within(low: u8, high: u8, x: u8) -> bool
+fn is_within(low: u8, high: u8, x: u8) -> bool
     ensures { λ r. ⌜ r ≡ within low high x ⌝ }
 {
     if x < low {
