@@ -38,6 +38,8 @@
  *   7  MOKROSHEL_BAD_N         Set-up with n not 1 to 64. Correct the caller.
  *   8  MOKROSHEL_SHORT_IMAGE   Set-up with a buffer shorter than 16n + 268. Lend a longer one.
  *
+ * The calls allocate nothing and keep nothing outside the two buffers: of the C library the archive asks for memcpy and memset alone.
+ *
  * What a caller owes, since no proof can see it: a pointer is not null, also where its length is 0, and is valid for reading and writing as many
  * bytes as its length says; the image and the log buffer do not overlap; nobody else reads or writes either during the call. */
 #ifndef MOKROSHEL_H
