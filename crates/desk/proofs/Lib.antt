@@ -1,2 +1,3 @@
 pub mod Others
 pub mod Said
+pub mod Unpacked

@@ -22,3 +22,7 @@ pub answer : (r : Reply) (a : Answer) (p k : ℕ) → r ≡ Answered a → p ≡
 unfolding packed
 answer r a p k is module· length =
     ap (λ (z : ℕ). a .number + 256 * z + 65536 * k) module· ∙ ap (λ (z : ℕ). a .number + 256 * admitted (a .event) + 65536 * z) length ∙ sym (ap packed is)
+
+-- A contract of an exported call leaves nothing open: any two outcomes that it admits are the same.
+pub one-outcome : (c : Call) (b : List ℕ) {x x′ : ℕ} {b₁ b₂ : List ℕ} → Exports c b x b₁ → Exports c b x′ b₂ → (x ≡ x′) × (b₁ ≡ b₂)
+one-outcome c b one other = (one .says ∙ sym (other .says), one .leaves ∙ sym (other .leaves))

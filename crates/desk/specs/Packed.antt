@@ -1,6 +1,6 @@
 -- What a call says, as one number for other languages. Document 01, "What a call says": "The answer carries what happened and, for an admission,
 -- which module", "Taking the log answers 0 and its length", and a refusal "returns that number alone".
-use Prim.Native.Nat.{ℕ, _+_, _*_}
+use Prim.Native.Nat.{ℕ, _+_, _-_, _*_, _/_, _%_}
 use mathlib.Core.Path.{_≡_}
 use mathlib.Core.Bool.{Bool, true, false, cond}
 use mathlib.Core.List.{List}
@@ -48,3 +48,33 @@ packed (Answered a) = a .number + 256 * admitted (a .event) + 65536 * lengthTake
 pub record Exports (c : Call) (b : List ℕ) (r : ℕ) (b′ : List ℕ) : Type 0 where
   pub says : r ≡ packed (reply c b)
   pub leaves : b′ ≡ image c b
+
+-- The call takes the log. A caller knows that, since it made the call: a log of no entry and a call that is done are both packed to 0.
+abbrev pub takes : Call → Bool
+takes (setUp k) = false
+takes (beginAcquisition p r) = false
+takes (beginRelease p) = false
+takes (step p) = false
+takes (takeLog room) = true
+
+-- the event of an answer, by its number, the module and the length beside it
+unfoldable pub eventOf : Bool → ℕ → ℕ → ℕ → Event
+eventOf true number p k = Taken k
+eventOf false number p k =
+    cond (eqb number 0) Done
+    (cond (eqb number 1) Waiting
+    (cond (eqb number 2) (Admitted p)
+    (cond (eqb number 3) Joined
+    (cond (eqb number 4) Left
+    Finished))))
+
+-- what a caller reads out of the number
+unfoldable pub unpacked : Bool → ℕ → Reply
+unpacked log x =
+    cond (leb top x)
+    (Refused (x - top))
+    (Answered (record { number = x % 256; event = eventOf log (x % 256) (x / 256 % 256) (x / 65536) }))
+
+-- What is proved of it: the packing loses nothing of what a call says on any image.
+abbrev pub LosesNothing : Type 0
+LosesNothing = (c : Call) (b : List ℕ) → unpacked (takes c) (packed (reply c b)) ≡ reply c b

@@ -1,4 +1,4 @@
--- The answer of a step: its number is that of its event, and whoever is admitted is the module that steps. Assumes nothing.
+-- The answer of a step: its number is that of its event, whoever is admitted is the module that steps, and no log is taken. Assumes nothing.
 use Prim.Native.Nat.{ℕ, _≤_}
 use mathlib.Core.Path.{_≡_, refl}
 use mathlib.Core.Bool.{Bool}
@@ -16,7 +16,7 @@ use Rattle.stage.specs.declared.Shared.{Shared}
 use Rattle.stage.specs.declared.Stepped.{Stepped}
 use Rattle.stage.proofs.ByStage.{by-stage}
 
--- an admission is p's
+-- an admission is p's, and no step takes the log
 abbrev pub Of : ℕ → Event → Type 0
 Of p Done = Unit {0}
 Of p Waiting = Unit {0}
@@ -24,9 +24,9 @@ Of p (Admitted q) = q ≡ p
 Of p Joined = Unit {0}
 Of p Left = Unit {0}
 Of p Finished = Unit {0}
-Of p (Taken k) = Unit {0}
+Of p (Taken k) = ⊥
 
--- number and event agree, and an admission is p's
+-- number and event agree, and the event is one of a step of p
 pub record Agrees (p : ℕ) (r : Stepped) : Type 0 where
   pub number : r .answer ≡ answerOf (r .answer .event)
   pub itself : Of p (r .answer .event)
