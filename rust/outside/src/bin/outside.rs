@@ -1,7 +1,8 @@
 //! Hold the archive against the reference.
 //!
-//! `outside [--seed S] [--calls N]` drives both over at least N calls of the cases of seed S, as the
-//! program `compare` does with the plain desk.
+//! `outside [--seed S] [--calls N] [--sweeps K]` drives both over at least N calls of the cases of
+//! seed S and sweeps K times over every value of every byte, as the program `compare` does with the
+//! plain desk.
 
 use std::process::ExitCode;
 

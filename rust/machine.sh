@@ -1,0 +1,38 @@
+# What the scripts check and measure know of this machine. To be sourced.
+#
+# Rattle's archive is for x86-64. On any other machine there are two: the real one, which runs under an emulator, and
+# the same module compiled for this machine (see archive), for speed and for valgrind.
+root=$(cd "$(dirname "${BASH_SOURCE[0]}")/.." && pwd -P)
+machine=$(uname -m)
+archives=$root/target/outside
+x86=x86_64-unknown-linux-gnu
+
+cargo_for() { # ARCH VERB WORDS..: cargo for machines of this kind, on the archive for them
+  local arch=$1 verb=$2
+  shift 2
+  (
+    cd "$root/rust"
+    export MOKROSHEL_ARCHIVE=$archives/$arch
+    if [ "$arch" != "$machine" ]; then
+      # Debian's own compiler is the one that has the library for another machine.
+      [ -d "$(rustc --print sysroot)/lib/rustlib/$x86" ] || PATH=/usr/bin:$PATH
+      export CARGO_TARGET_X86_64_UNKNOWN_LINUX_GNU_LINKER=x86_64-linux-gnu-gcc
+      export CARGO_TARGET_X86_64_UNKNOWN_LINUX_GNU_RUNNER=qemu-x86_64
+      set -- --target "$x86" "$@"
+    fi
+    cargo "$verb" --quiet --release --offline "$@"
+  )
+}
+
+run_for() { # ARCH PROGRAM WORDS..: a program that cargo_for built
+  local arch=$1 program=$2
+  shift 2
+  if [ "$arch" = "$machine" ]; then
+    "$root/rust/target/release/$program" "$@"
+  else
+    qemu-x86_64 "$root/rust/target/$x86/release/$program" "$@"
+  fi
+}
+
+kinds=("$machine")
+[ "$machine" = x86_64 ] || kinds+=(x86_64)

@@ -1,0 +1,219 @@
+//! What the five calls cost, as seen by their caller.
+//!
+//! `measure time` prints for each call, on busy tables of 1, 8 and 64 modules, the time of a call to
+//! the archive through `mokroshel`, and its ratio to the plain desk and to one bare pass over the
+//! image's bytes (a comparison with a copy). `measure stack` prints the most stack that each call
+//! took. `measure lines N` prints N lines for `turns`.
+
+use std::hint::black_box;
+use std::process::ExitCode;
+use std::time::Instant;
+
+use cases::{Call, Rng, Stream};
+use mokroshel::{table_length, Image};
+use outside::stack::depth;
+
+/// How many tables take turns, so that a call does not always find the same.
+const TABLES: usize = 8;
+const REPEATS: usize = 500;
+const ROUNDS: usize = 41;
+const NAMES: [&str; 5] = [
+    "set up",
+    "begin acquisition",
+    "begin release",
+    "step",
+    "take log",
+];
+
+fn kind(call: &Call) -> usize {
+    match call {
+        Call::SetUp { .. } => 0,
+        Call::BeginAcquisition { .. } => 1,
+        Call::BeginRelease { .. } => 2,
+        Call::Step { .. } => 3,
+        Call::TakeLog { .. } => 4,
+    }
+}
+
+fn archive(image: &mut [u8], log: &mut [u8], call: &Call) {
+    let mut image = Image::over(image);
+    let _ = black_box(match call {
+        Call::SetUp { n } => image.set_up(*n),
+        Call::BeginAcquisition { p, priority } => image.begin_acquisition(*p, *priority),
+        Call::BeginRelease { p } => image.begin_release(*p),
+        Call::Step { p } => image.step(*p),
+        Call::TakeLog { .. } => image.take_log(log),
+    });
+}
+
+fn plain(image: &mut [u8], log: &mut [u8], call: &Call) {
+    let _ = black_box(match call {
+        Call::SetUp { n } => plain::set_up(image, *n),
+        Call::BeginAcquisition { p, priority } => plain::begin_acquisition(image, *p, *priority),
+        Call::BeginRelease { p } => plain::begin_release(image, *p),
+        Call::Step { p } => plain::step(image, *p),
+        Call::TakeLog { .. } => plain::take_log(image, log),
+    });
+}
+
+/// A busy table: at each turn whatever a random module's stage asks for.
+struct Busy {
+    rng: Rng,
+    n: u32,
+    image: Vec<u8>,
+}
+
+impl Busy {
+    fn new(n: u32) -> Busy {
+        let mut image = vec![0; table_length(n as usize)];
+        plain(&mut image, &mut [], &Call::SetUp { n });
+        let rng = Rng::new(u64::from(n));
+        Busy { rng, n, image }
+    }
+
+    fn next_call(&mut self) -> Call {
+        let p = self.rng.within(1, u64::from(self.n)) as u32;
+        match self.image[16 * (p as usize - 1)] {
+            0 => Call::BeginAcquisition {
+                p,
+                priority: self.rng.within(1, 5) as u32,
+            },
+            13 => Call::BeginRelease { p },
+            _ => Call::Step { p },
+        }
+    }
+
+    /// Tables on which a call of this kind is accepted, each with that call.
+    fn before(mut self, wanted: usize) -> Vec<(Vec<u8>, Call)> {
+        let (n, mut found) = (self.n, Vec::new());
+        for turn in 0.. {
+            let call = match wanted {
+                0 => Call::SetUp { n },
+                4 => Call::TakeLog { buffer: Vec::new() },
+                _ => self.next_call(),
+            };
+            if turn % 10 == 0 && turn > 1000 && kind(&call) == wanted {
+                found.push((self.image.clone(), call));
+                if found.len() == TABLES {
+                    break;
+                }
+            }
+            let natural = self.next_call();
+            plain(&mut self.image, &mut [], &natural);
+            if turn % 200 == 199 {
+                let take = Call::TakeLog { buffer: Vec::new() };
+                plain(&mut self.image, &mut [0; 256], &take);
+            }
+        }
+        found
+    }
+}
+
+/// Nanoseconds of one call, with the copy that restores its image.
+fn time(before: &[(Vec<u8>, Call)], work: impl Fn(&mut [u8], &mut [u8], &(Vec<u8>, Call))) -> f64 {
+    let mut images: Vec<_> = before.iter().map(|(image, _)| image.clone()).collect();
+    let mut log = [0; 256];
+    let start = Instant::now();
+    for _ in 0..REPEATS {
+        for (image, (restored, _)) in images.iter_mut().zip(before) {
+            black_box(&mut *image).copy_from_slice(restored);
+        }
+        for (image, given) in images.iter_mut().zip(before) {
+            work(image, &mut log, given);
+        }
+    }
+    start.elapsed().as_nanos() as f64 / (REPEATS * before.len()) as f64
+}
+
+fn median(mut of: Vec<f64>) -> f64 {
+    of.sort_by(f64::total_cmp);
+    of[of.len() / 2]
+}
+
+fn times() {
+    println!("call                n   archive     plain  one pass   to plain   to a pass");
+    for (wanted, name) in NAMES.iter().enumerate() {
+        for n in [1, 8, 64] {
+            let before = Busy::new(n).before(wanted);
+            let mut all: [Vec<f64>; 4] = Default::default();
+            for _ in 0..ROUNDS {
+                all[0].push(time(&before, |_, _, _| ()));
+                all[1].push(time(&before, |image, log, (_, call)| {
+                    archive(image, log, call)
+                }));
+                all[2].push(time(&before, |image, log, (_, call)| {
+                    plain(image, log, call)
+                }));
+                all[3].push(time(&before, |image, _, (copy, _)| {
+                    black_box(black_box(&*image) == black_box(&copy[..]));
+                }));
+            }
+            let [restore, archive, plain, pass] = all.map(median);
+            let [archive, plain, pass] = [archive, plain, pass].map(|ns| ns - restore);
+            println!(
+                "{name:<18}{n:>3}{archive:>7.1} ns{plain:>7.1} ns{pass:>7.1} ns{:>11.2}{:>12.2}",
+                archive / plain,
+                archive / pass
+            );
+        }
+    }
+}
+
+/// The most stack of each call over histories, strange and damaged images.
+fn stacks() {
+    let mut most = [0; NAMES.len()];
+    let mut stream = Stream::new(1);
+    let mut calls = 0;
+    while calls < 200_000 {
+        let mut case = stream.next_case();
+        let mut image = case.image.clone();
+        while let Some(call) = case.next_call(&image) {
+            let mut log = match &call {
+                Call::TakeLog { buffer } => buffer.clone(),
+                _ => Vec::new(),
+            };
+            let took = depth(|| archive(&mut image, &mut log, &call));
+            most[kind(&call)] = most[kind(&call)].max(took);
+            calls += 1;
+        }
+    }
+    for (name, most) in NAMES.iter().zip(most) {
+        println!("{name:<18} {most:>5} bytes of stack at most, of {calls} calls of all kinds");
+    }
+}
+
+/// Lines for `turns`: a busy table of 8, set up anew before its log is full.
+fn lines(count: usize) {
+    let mut text = String::new();
+    let mut busy = Busy::new(8);
+    for line in 0..count {
+        let call = match line % 1000 {
+            0 => Call::SetUp { n: 8 },
+            _ => busy.next_call(),
+        };
+        plain(&mut busy.image, &mut [], &call);
+        text += &match call {
+            Call::SetUp { n } => format!("n {n}\n"),
+            Call::BeginAcquisition { p, priority } => format!("a {p} {priority}\n"),
+            Call::BeginRelease { p } => format!("r {p}\n"),
+            Call::Step { p } => format!("s {p}\n"),
+            Call::TakeLog { .. } => unreachable!("a busy table has no such call"),
+        };
+    }
+    print!("{text}");
+}
+
+fn main() -> ExitCode {
+    let words: Vec<_> = std::env::args().skip(1).collect();
+    let words: Vec<_> = words.iter().map(String::as_str).collect();
+    match words[..] {
+        ["time"] => times(),
+        ["stack"] => stacks(),
+        ["lines", count] if count.parse::<usize>().is_ok() => lines(count.parse().unwrap()),
+        _ => {
+            eprintln!("usage: measure time | stack | lines N");
+            return ExitCode::from(2);
+        }
+    }
+    ExitCode::SUCCESS
+}
