@@ -2,7 +2,7 @@
 //! word are the plain line of joins and leaves, at most one module is inside and it is the line's
 //! first, and the log of admissions names the firsts in order, lacking at most the latest.
 //!
-//! The histories are far too short for a link to change 65,536 times; then one in which a link does, and demand 3 fails.
+//! The histories are far too short for a link to change 65,536 times: `outside/tests/premise.rs` has one that is not.
 
 use cases::{Call, History, Rng};
 use reference::{Field, Reply, Sheet};
@@ -39,22 +39,22 @@ impl Line {
         }
     }
 
-    fn modules(&self) -> Vec<u16> {
-        self.standing.iter().map(|(module, _)| *module).collect()
-    }
-
-    /// What a step's answer says of the line: a join, or a leave.
-    fn hear(&mut self, before: &Sheet, module: u16, number: u8) {
-        match number {
-            3 => self.join(module, before.get(Field::OwnPriority, module)),
-            4 => self.leave(module),
-            _ => {}
-        }
-    }
-
     fn check(&self, sheet: &Sheet) {
-        let line = self.modules();
-        assert_eq!(found(sheet), line);
+        // Found from the lock word.
+        let mut found = Vec::new();
+        let mut next = sheet.lock_word();
+        while next != 0 {
+            assert!(found.len() <= 64, "a circle");
+            found.push(next);
+            next = sheet.link(next).pointer;
+        }
+        if let Some(first) = found.first() {
+            if [15, 16].contains(&sheet.get(Field::Stage, *first)) {
+                found.remove(0);
+            }
+        }
+        let line: Vec<u16> = self.standing.iter().map(|(module, _)| *module).collect();
+        assert_eq!(found, line);
         // Inside.
         let inside: Vec<u16> = (1..=sheet.n() as u16)
             .filter(|module| [13, 14].contains(&sheet.get(Field::Stage, *module)))
@@ -77,23 +77,6 @@ impl Line {
         assert!(lacking <= 1);
         assert_eq!(log, self.firsts[..log.len()]);
     }
-}
-
-/// The records found from the lock word.
-fn found(sheet: &Sheet) -> Vec<u16> {
-    let mut found = Vec::new();
-    let mut next = sheet.lock_word();
-    while next != 0 {
-        assert!(found.len() <= 64, "a circle");
-        found.push(next);
-        next = sheet.link(next).pointer;
-    }
-    if let Some(first) = found.first() {
-        if [15, 16].contains(&sheet.get(Field::Stage, *first)) {
-            found.remove(0);
-        }
-    }
-    found
 }
 
 #[test]
@@ -126,11 +109,15 @@ fn histories_keep_demand_3_and_releases_their_number_of_steps() {
                     if let Reply::Answered { number, .. } = reference::step(&mut image, p) {
                         let me = p as u16;
                         steps[p as usize] += 1;
-                        line.hear(&before, me, number);
-                        if number == 5 {
-                            releases += 1;
-                            let alone = before.get(Field::S, me) == 0;
-                            assert_eq!(steps[p as usize], if alone { 3 } else { 5 });
+                        match number {
+                            3 => line.join(me, before.get(Field::OwnPriority, me)),
+                            4 => line.leave(me),
+                            5 => {
+                                releases += 1;
+                                let alone = before.get(Field::S, me) == 0;
+                                assert_eq!(steps[p as usize], if alone { 3 } else { 5 });
+                            }
+                            _ => {}
                         }
                     }
                 }
@@ -150,93 +137,4 @@ fn histories_keep_demand_3_and_releases_their_number_of_steps() {
     }
     assert!(longest >= 8, "lines of up to {longest}");
     assert!(releases > 1000);
-}
-
-/// A history of three modules, with how often the link of module 1 has changed in it.
-struct Desk {
-    image: Vec<u8>,
-    line: Line,
-    changes: u32,
-}
-
-impl Desk {
-    fn step(&mut self, p: u32) {
-        let before = Sheet::read(&self.image);
-        let Reply::Answered { number, .. } = reference::step(&mut self.image, p) else {
-            panic!("a step is refused");
-        };
-        let after = Sheet::read(&self.image);
-        self.changes += u32::from(after.link(1) != before.link(1));
-        self.line.hear(&before, p as u16, number);
-    }
-
-    fn acquire(&mut self, p: u32, priority: u32, steps: u32) {
-        let begun = reference::begin_acquisition(&mut self.image, p, priority);
-        assert_eq!(begun, Reply::answered(0));
-        (0..steps).for_each(|_| self.step(p));
-    }
-
-    fn release(&mut self, p: u32) {
-        assert_eq!(
-            reference::begin_release(&mut self.image, p),
-            Reply::answered(0)
-        );
-        (0..3).for_each(|_| self.step(p));
-        let mut log = [0; 256];
-        if let Reply::Answered {
-            log_length: Some(length),
-            ..
-        } = reference::take_log(&mut self.image, &mut log)
-        {
-            self.line.logged.extend(&log[..usize::from(length)]);
-        }
-    }
-
-    fn stage(&self, p: u16) -> u16 {
-        Sheet::read(&self.image).get(Field::Stage, p)
-    }
-}
-
-/// Module 2 reads the link of 1, which is inside, and sleeps before its swap. The link of 1 changes until it is bit for bit
-/// as it was read; but now 1 waits behind 3, less urgent than 2, and 2 joins behind it all the same.
-fn out_of_step(rounds: u32) -> Desk {
-    let mut desk = Desk {
-        image: vec![0; 16 * 3 + 268],
-        line: Line::default(),
-        changes: 0,
-    };
-    assert_eq!(reference::set_up(&mut desk.image, 3), Reply::answered(0));
-    desk.acquire(1, 10, 3);
-    desk.acquire(2, 5, 4);
-    desk.changes = 0;
-    while desk.stage(2) != 9 {
-        desk.step(2);
-    }
-    desk.release(1);
-    for _ in 0..rounds {
-        desk.acquire(1, 10, 3);
-        desk.release(1);
-    }
-    desk.acquire(3, 10, 3);
-    desk.acquire(1, 3, 8);
-    assert_eq!((desk.stage(3), desk.stage(1), desk.stage(2)), (13, 12, 9));
-    desk.line.check(&Sheet::read(&desk.image));
-    desk
-}
-
-#[test]
-fn demand_3_fails_after_65_536_changes_and_holds_before() {
-    // 1 + 3 * 21,844 + 3 changes
-    let mut desk = out_of_step(21_844);
-    assert_eq!(desk.changes, 65_536);
-    desk.step(2);
-    assert_eq!(desk.line.modules(), [3, 2, 1]);
-    assert_eq!(found(&Sheet::read(&desk.image)), [3, 1, 2]);
-
-    // 3 fewer: the swap fails, the link found is open, and 2 looks at it
-    let mut desk = out_of_step(21_843);
-    assert_eq!(desk.changes, 65_533);
-    desk.step(2);
-    desk.line.check(&Sheet::read(&desk.image));
-    assert_eq!(desk.stage(2), 10);
 }
