@@ -1,0 +1,1 @@
+// No code: the bench table, and its proof.
