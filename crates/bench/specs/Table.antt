@@ -195,11 +195,11 @@ B4 =
     ∷ see log (1 ∷ 3 ∷ [])
     ∷ []
 
--- "after B1, module 2, priority 5, at stage 9 with w (nil, open, 2); 3, priority 8, joins first": how B5 and B6 start
+-- "after B1, module 2, priority 5, at stage 9 with w (nil, open, 2); 3, priority 8, ..": how B5 and B6 start
 unfoldable pub overtaken : List Told
 overtaken = B1 ++ begins 2 5 ++ goes 2 (1 ∷ 2 ∷ 4 ∷ 5 ∷ 6 ∷ 8 ∷ 9 ∷ []) ++ see (w 2) (nil ∷ OPEN ∷ 2 ∷ []) ∷ begins 3 8
 
--- ".. through stage 11. 2's swap fails, stage 10, then 5, and it joins behind 3."
+-- ".. joins first through stage 11. 2's swap fails, stage 10, then 5, and it joins behind 3."
 unfoldable pub B5 : List Told
 B5 =
     overtaken
@@ -254,7 +254,7 @@ B10 = begins 1 10 ++ call (beginAcquisition 1 10) ∷ see refusal (4 ∷ []) ∷
 unfoldable pub table : List (List Told)
 table = B1 ∷ B2 ∷ B3 ∷ B4 ∷ B5 ∷ B6 ∷ B7 ∷ B8 ∷ B9 ∷ B10 ∷ []
 
--- "All start fresh, n = 3": in a buffer of any bytes, with three of an owner's in front
+-- "All start fresh, n = 3": set up in a buffer that held other bytes, with three of an owner's in front
 abbrev pub owner : List ℕ
 owner = 71 ∷ 72 ∷ 73 ∷ []
 
