@@ -19,7 +19,7 @@
  *   4. mokroshel_step until it answers MOKROSHEL_FINISHED: 3 steps with no successor and 5 with one. p is idle and may begin again.
  *
  * Steps of several modules may fall between one another in any order. The calls themselves may not: one call on an image ends before the next
- * begins. Who makes them from several threads puts a lock of his own around each call.
+ * begins. A caller with several threads puts a lock of its own around each call.
  *
  * The log. Each admission adds one entry, the module's number, to the held log, which has room for 256. Take it with mokroshel_take_log before
  * it is full: while it is, a step that would admit is refused (5) and changes nothing. A buffer of MOKROSHEL_LOG bytes always suffices.
@@ -96,7 +96,10 @@ uint32_t mokroshel_step(uint8_t *image, size_t image_length, uint32_t p);
  * empty. Answers MOKROSHEL_DONE and the length of the log taken; refused 1 or 6. */
 uint32_t mokroshel_take_log(uint8_t *image, size_t image_length, uint8_t *log, size_t log_length);
 
-/* Whether the call was refused: 1 or 0. */
+/* What a call said, part by part: the parts are those that `unpacked` in crates/desk/specs/Packed.antt reads. That reading is proved to give
+ * back all that the call said; the lines of C below are not proved, example.c runs them.
+ *
+ * Whether the call was refused: 1 or 0. */
 static inline int mokroshel_refused(uint32_t said) { return (int)(said >> 31); }
 
 /* The number of the refusal where it was, and of the answer where it was not. */
