@@ -36,3 +36,18 @@ run_for() { # ARCH PROGRAM WORDS..: a program that cargo_for built
 
 kinds=("$machine")
 [ "$machine" = x86_64 ] || kinds+=(x86_64)
+
+quietly() { # COMMAND..: what it says is shown only if it fails; $said keeps it
+  said=$("$@" 2>&1) || {
+    printf '%s\n' "$said" "FAILED: $*"
+    return 1
+  }
+}
+
+build() { # for each kind of machine the archive, and the programs on it
+  local kind
+  for kind in "${kinds[@]}"; do
+    quietly bash "$root/rust/archive" "$archives/$kind" "$kind"
+    quietly cargo_for "$kind" build -p outside -p plain
+  done
+}
