@@ -34,6 +34,11 @@ run_for() { # ARCH PROGRAM WORDS..: a program that cargo_for built
   fi
 }
 
+turns=$root/target/bin/turns
+run_turns() { # the program turns, which is for x86-64
+  if [ "$machine" = x86_64 ]; then "$turns"; else qemu-x86_64 "$turns"; fi
+}
+
 kinds=("$machine")
 [ "$machine" = x86_64 ] || kinds+=(x86_64)
 
