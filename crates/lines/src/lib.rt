@@ -1,9 +1,9 @@
 // The lines that the program `turns` reads and writes: what a line of input asks for, and the text of an answer. 01, "The program `turns`".
-use stage::Reply;
 ghost use mathlib.Core.Path.{_≡_};
 ghost use Prim.Native.Nat.{_-_, _≤_, _<_};
 ghost use lib.ListN.{length, getD};
-ghost use Rattle.lines.specs.Command.{digit, longNumber, numberFrom, numberAt, last, ofTwo, byLetter, commandOf};
+ghost use Rattle.lines.specs.Command as Line;
+ghost use Rattle.lines.specs.Command.{digit, numberFrom, numberAt, last, ofOne, ofTwo, parted, byLetter, commandOf};
 
 // A command of a line.
 pub enum Command {
@@ -15,15 +15,9 @@ pub enum Command {
 }
 
 // A number that was read, and the place after it.
-pub enum Number {
+enum Number {
     Read(u32, usize),
     Nothing,
-}
-
-// A number that ends its line.
-pub enum Last {
-    Is(u32),
-    Not,
 }
 
 // The byte at a place, or 0 past the end.
@@ -53,21 +47,11 @@ fn worth(x: u8) -> u32
     (x - 48) as u32
 }
 
-// A number of more than one digit.
-fn longer(a: u8, b: u8, c: u8, d: u8, at: usize) -> Number
-    requires { ⌜ at ≤ 32 ⌝ }
-    ensures { λ r. ⌜ r ≡ longNumber a b c d at ⌝ }
+// The number of three digits.
+fn value(a: u8, b: u8, c: u8) -> u32
+    ensures { λ r. ⌜ r ≡ Line.value a b c ⌝ }
 {
-    if a == 48 {
-        return Number::Nothing;
-    }
-    if !is_digit(c) {
-        return Number::Read(10 * worth(a) + worth(b), at + 2);
-    }
-    if !is_digit(d) {
-        return Number::Read(100 * worth(a) + 10 * worth(b) + worth(c), at + 3);
-    }
-    Number::Nothing
+    100 * worth(a) + 10 * worth(b) + worth(c)
 }
 
 // The number that begins with the byte a, at a place of a line.
@@ -79,9 +63,18 @@ fn number_from(a: u8, b: u8, c: u8, d: u8, at: usize) -> Number
         return Number::Nothing;
     }
     if !is_digit(b) {
-        return Number::Read(worth(a), at + 1);
+        return Number::Read(value(48, 48, a), at + 1);
     }
-    longer(a, b, c, d, at)
+    if a == 48 {
+        return Number::Nothing;
+    }
+    if !is_digit(c) {
+        return Number::Read(value(48, a, b), at + 2);
+    }
+    if !is_digit(d) {
+        return Number::Read(value(a, b, c), at + 3);
+    }
+    Number::Nothing
 }
 
 // The number that stands at a place of a line.
@@ -98,8 +91,8 @@ fn number_at(line: &[u8], at: usize) -> Number
     )
 }
 
-// The number at a place, if it ends the line.
-fn last_at(line: &[u8], at: usize) -> Last
+// The number at a place, if the line ends with it.
+fn last_at(line: &[u8], at: usize) -> Number
     requires { ⌜ at ≤ 32 ⌝ }
     ensures { λ r. ⌜ r ≡ last (now (line .entry)) (numberAt (now (line .entry)) at) ⌝ }
 {
@@ -107,22 +100,46 @@ fn last_at(line: &[u8], at: usize) -> Last
     match number {
         Number::Read(p, next) => {
             if next == line.len() {
-                Last::Is(p)
+                Number::Read(p, next)
             } else {
-                Last::Not
+                Number::Nothing
             }
         }
-        Number::Nothing => Last::Not,
+        Number::Nothing => Number::Nothing,
     }
 }
 
-// `a P R`.
-fn acquisition(line: &[u8]) -> Command
-    requires { ⌜ length (now line) ≤ 16 ⌝ }
-    ensures { λ r. ⌜ r ≡ ofTwo Command.BeginAcquisition (now (line .entry)) (numberAt (now (line .entry)) 2) ⌝ }
+// A command of one number.
+fn of_one(letter: u8, number: Number) -> Command
+    ensures { λ r. ⌜ r ≡ ofOne letter number ⌝ }
 {
-    let number = number_at(line, 2);
     match number {
+        Number::Read(p, _) => match letter {
+            110 => Command::SetUp(p),
+            115 => Command::Step(p),
+            114 => Command::BeginRelease(p),
+            _ => Command::Malformed,
+        },
+        Number::Nothing => Command::Malformed,
+    }
+}
+
+// A command of two numbers.
+fn of_two(p: u32, number: Number) -> Command
+    ensures { λ r. ⌜ r ≡ ofTwo p number ⌝ }
+{
+    match number {
+        Number::Read(r, _) => Command::BeginAcquisition(p, r),
+        Number::Nothing => Command::Malformed,
+    }
+}
+
+// The command of two numbers, the first of which was read.
+fn parted_from(line: &[u8], first: Number) -> Command
+    requires { ⌜ length (now line) ≤ 16 ⌝ }
+    ensures { λ r. ⌜ r ≡ parted (now (line .entry)) first ⌝ }
+{
+    match first {
         Number::Read(p, next) => {
             if line.len() <= next {
                 return Command::Malformed;
@@ -130,34 +147,24 @@ fn acquisition(line: &[u8]) -> Command
             if line[next] != 32 {
                 return Command::Malformed;
             }
-            let second = last_at(line, next + 1);
-            match second {
-                Last::Is(r) => Command::BeginAcquisition(p, r),
-                Last::Not => Command::Malformed,
-            }
+            of_two(p, last_at(line, next + 1))
         }
         Number::Nothing => Command::Malformed,
     }
 }
 
-// A command by its letter.
-fn by_letter(letter: u8, line: &[u8]) -> Command
+// A command by its letter and the byte after it.
+fn by_letter(letter: u8, space: u8, line: &[u8]) -> Command
     requires { ⌜ length (now line) ≤ 16 ⌝ }
-    ensures { λ r. ⌜ r ≡ byLetter letter (now (line .entry)) ⌝ }
+    ensures { λ r. ⌜ r ≡ byLetter letter space (now (line .entry)) ⌝ }
 {
-    if letter == 97 {
-        return acquisition(line);
-    }
-    let number = last_at(line, 2);
-    let Last::Is(p) = number else {
+    if space != 32 {
         return Command::Malformed;
-    };
-    match letter {
-        110 => Command::SetUp(p),
-        115 => Command::Step(p),
-        114 => Command::BeginRelease(p),
-        _ => Command::Malformed,
     }
+    if letter == 97 {
+        return parted_from(line, number_at(line, 2));
+    }
+    of_one(letter, last_at(line, 2))
 }
 
 // What a line asks for.
@@ -167,8 +174,5 @@ pub fn parse(line: &[u8]) -> Command
     if 16 < line.len() {
         return Command::Malformed;
     }
-    if byte_at(line, 1) != 32 {
-        return Command::Malformed;
-    }
-    by_letter(byte_at(line, 0), line)
+    by_letter(byte_at(line, 0), byte_at(line, 1), line)
 }
