@@ -1,9 +1,14 @@
 // The lines that the program `turns` reads and writes: what a line of input asks for, and the text of an answer. 01, "The program `turns`".
+use stage::Reply;
 ghost use mathlib.Core.Path.{_≡_};
-ghost use Prim.Native.Nat.{_-_, _≤_, _<_};
+ghost use mathlib.Core.List.{[], _∷_};
+ghost use Prim.Native.Nat.{_+_, _-_, _≤_, _<_};
+ghost use lib.Dec.{leb};
 ghost use lib.ListN.{length, getD};
 ghost use Rattle.lines.specs.Command as Line;
 ghost use Rattle.lines.specs.Command.{digit, numberFrom, numberAt, last, ofOne, ofTwo, parted, byLetter, commandOf};
+ghost use Rattle.lines.specs.Inside.{Put};
+ghost use Rattle.lines.specs.Text.{decimal, lineText, replyText, lockText, entriesText, logText, Writes};
 
 // A command of a line.
 pub enum Command {
@@ -175,4 +180,159 @@ pub fn parse(line: &[u8]) -> Command
         return Command::Malformed;
     }
     by_letter(byte_at(line, 0), byte_at(line, 1), line)
+}
+
+// How many digits a number has.
+fn digits(x: u8) -> usize
+    ensures { λ r. ⌜ (r ≡ length (decimal x)) × (r ≤ 3) ⌝ }
+{
+    if x < 10 {
+        return 1;
+    }
+    if x < 100 {
+        return 2;
+    }
+    3
+}
+
+// Whether the entries of a log have room in so many bytes.
+fn entries_fit(entries: &[u8], bytes: usize) -> bool
+    ensures { λ r. ⌜ r ≡ leb (length (entriesText (now (entries .entry)))) bytes ⌝ }
+{
+    let mut left = bytes;
+    let mut i = 0;
+    while i < entries.len() {
+        let n = 1 + digits(entries[i]);
+        if left < n {
+            return false;
+        }
+        left -= n;
+        i += 1;
+    }
+    true
+}
+
+// Puts one byte.
+fn put_byte(out: &mut [u8], at: usize, x: u8) -> usize
+    requires { ⌜ at < length (now out) ⌝ }
+    ensures { λ r. ⌜ Put (x ∷ []) (now (out .entry)) at r (now (out .exit)) ⌝ }
+{
+    out[at] = x;
+    at + 1
+}
+
+// Puts bytes.
+fn put_bytes(out: &mut [u8], at: usize, bytes: &[u8]) -> usize
+    requires { ⌜ at + length (now bytes) ≤ length (now out) ⌝ }
+    ensures { λ r. ⌜ Put (now (bytes .entry)) (now (out .entry)) at r (now (out .exit)) ⌝ }
+{
+    let mut next = at;
+    let mut i = 0;
+    while i < bytes.len() {
+        next = put_byte(out, next, bytes[i]);
+        i += 1;
+    }
+    next
+}
+
+// Puts a number.
+fn put_decimal(out: &mut [u8], at: usize, x: u8) -> usize
+    requires { ⌜ at + length (decimal x) ≤ length (now out) ⌝ }
+    ensures { λ r. ⌜ Put (decimal x) (now (out .entry)) at r (now (out .exit)) ⌝ }
+{
+    if x < 10 {
+        out[at] = 48 + x;
+        return at + 1;
+    }
+    if x < 100 {
+        out[at] = 48 + x / 10;
+        out[at + 1] = 48 + x % 10;
+        return at + 2;
+    }
+    out[at] = 48 + x / 100;
+    out[at + 1] = 48 + x / 10 % 10;
+    out[at + 2] = 48 + x % 10;
+    at + 3
+}
+
+// Puts an entry, with a space in front.
+fn put_entry(out: &mut [u8], at: usize, x: u8) -> usize
+    requires { ⌜ at + length (32 ∷ decimal x) ≤ length (now out) ⌝ }
+    ensures { λ r. ⌜ Put (32 ∷ decimal x) (now (out .entry)) at r (now (out .exit)) ⌝ }
+{
+    let number = put_byte(out, at, 32);
+    put_decimal(out, number, x)
+}
+
+// Puts the entries of a log.
+fn put_entries(out: &mut [u8], at: usize, entries: &[u8]) -> usize
+    requires { ⌜ at + length (entriesText (now entries)) ≤ length (now out) ⌝ }
+    ensures { λ r. ⌜ Put (entriesText (now (entries .entry))) (now (out .entry)) at r (now (out .exit)) ⌝ }
+{
+    let mut next = at;
+    let mut i = 0;
+    while i < entries.len() {
+        next = put_entry(out, next, entries[i]);
+        i += 1;
+    }
+    next
+}
+
+// Writes a line of a word and a number.
+fn put_line(out: &mut [u8], at: usize, word: &[u8], x: u8) -> usize
+    ensures { λ r. ⌜ Writes (lineText (now (word .entry)) (decimal x)) (now (out .entry)) at r (now (out .exit)) ⌝ }
+{
+    if out.len() < at {
+        return at;
+    }
+    if out.len() - at < word.len() + digits(x) + 1 {
+        return at;
+    }
+    let number = put_bytes(out, at, word);
+    let end = put_decimal(out, number, x);
+    put_byte(out, end, 10)
+}
+
+// Writes what a call says.
+pub fn put_reply(out: &mut [u8], at: usize, reply: Reply) -> usize
+    ensures { λ r. ⌜ Writes (replyText reply) (now (out .entry)) at r (now (out .exit)) ⌝ }
+{
+    match reply {
+        Reply::Refused(k) => put_line(out, at, b"x ", k),
+        Reply::Answered(a) => put_line(out, at, b"", a.number),
+    }
+}
+
+// Writes the line of the lock word.
+pub fn put_lock(out: &mut [u8], at: usize, lock: u8) -> usize
+    ensures { λ r. ⌜ Writes (lockText lock) (now (out .entry)) at r (now (out .exit)) ⌝ }
+{
+    put_line(out, at, b"lock ", lock)
+}
+
+// Puts the line of the log's entries.
+fn put_entries_line(out: &mut [u8], at: usize, entries: &[u8]) -> usize
+    requires { ⌜ at + (length (entriesText (now entries)) + 4) ≤ length (now out) ⌝ }
+    ensures { λ r. ⌜ Writes (logText (now (entries .entry))) (now (out .entry)) at r (now (out .exit)) ⌝ }
+{
+    let first = put_bytes(out, at, b"log");
+    let end = put_entries(out, first, entries);
+    put_byte(out, end, 10)
+}
+
+// Writes the line of the log's entries.
+pub fn put_log(out: &mut [u8], at: usize, entries: &[u8]) -> usize
+    ensures { λ r. ⌜ Writes (logText (now (entries .entry))) (now (out .entry)) at r (now (out .exit)) ⌝ }
+{
+    if out.len() < at {
+        return at;
+    }
+    let room = out.len() - at;
+    if room < 4 {
+        return at;
+    }
+    if !entries_fit(entries, room - 4) {
+        return at;
+    }
+    put_entries_line(out, at, entries)
 }

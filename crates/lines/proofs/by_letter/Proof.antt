@@ -1,44 +1,33 @@
-use Rattle.lines.specs.Command.{parted, ofOne, byLetter}
-use borrow.Author.Tests.{eq-eqb, ne-eqb}
+-- `by_letter` makes the two tests of `byLetter`.
+-- Assumes nothing.
 use mathlib.Core.Path.{_∙_, ap}
-use Rattle.laws.proofs.Said.{taken, passed, choices}
 use borrow.Author.Needs.{needs}
+use borrow.Author.Tests.{eq-eqb, ne-eqb}
+use Rattle.laws.proofs.Said.{taken, passed, choices}
+use Rattle.lines.specs.Command.{parted, ofOne, byLetter}
 use Rattle.lines.proofs.by_letter.Statement.{statement}
 use Rattle.lines.proofs.by_letter.Tie as tie
-use Rattle.lines.proofs.by_letter.Reads as reads
-use Rattle.lines.proofs.by_letter.Lts as lts
-use Rattle.lines.proofs.last_at.Reads as last-at-reads
-use Rattle.lines.proofs.number_at.Reads as number-at-reads
-use Rattle.lines.proofs.of_one.Reads as of-one-reads
-use Rattle.lines.proofs.parted_from.Reads as parted-from-reads
 
--- src/lib.rt:162:9
 returns : tie.Need-returns
 unfolding byLetter
 returns c = search choices
 
--- src/lib.rt:165:34
 number-at-requires : tie.Need-number-at-requires
 number-at-requires c κs = search needs
 
--- src/lib.rt:165:9
 parted-from-requires : tie.Need-parted-from-requires
 parted-from-requires c κs = search needs
 
--- src/lib.rt:165:9
 returns-2 : tie.Need-returns-2
 unfolding byLetter
 returns-2 c = taken _ _ _ _ (eq-eqb _ _ (c .before .before .before .if1 .left)) (taken _ _ _ _ (eq-eqb _ _ (c .before .before .if2 .taken)) (c .parted-from .ensures ∙ ap (parted _) (c .before .number-at .ensures)))
 
--- src/lib.rt:167:20
 last-at-requires : tie.Need-last-at-requires
 last-at-requires c κs = search needs
 
--- src/lib.rt:167:5
 of-one-requires : tie.Need-of-one-requires
 of-one-requires c κs = search needs
 
--- src/lib.rt:157:1
 returns-3 : tie.Need-returns-3
 unfolding byLetter
 returns-3 c = taken _ _ _ _ (eq-eqb _ _ (c .before .before .before .if1 .left)) (passed _ _ _ _ (ne-eqb _ _ (c .before .before .if2 .left)) (c .of-one .ensures ∙ ap (ofOne _) (c .before .last-at .ensures)))

@@ -1,36 +1,29 @@
-use borrow.Author.Needs.{needs}
+-- `last_at` keeps the number that was read where it ends the line.
+-- Assumes nothing.
 use mathlib.Core.Path.{refl, sym, _∙_}
+use borrow.Author.Needs.{needs}
 use Rattle.laws.proofs.Said.{found, choices}
 use Rattle.lines.specs.Command.{last}
 use Rattle.lines.proofs.last_at.Statement.{statement}
 use Rattle.lines.proofs.last_at.Tie as tie
-use Rattle.lines.proofs.last_at.Reads as reads
-use Rattle.lines.proofs.last_at.Lts as lts
-use Rattle.lines.proofs.number_at.Reads as number-at-reads
 
--- src/lib.rt:99:9
 number-at-requires : tie.Need-number-at-requires
 number-at-requires c κs = search needs
 
--- src/lib.rt:101:22
 enum-known-number : tie.Need-enum-known-number
 enum-known-number c = search needs
 
--- src/lib.rt:108:28
 enum-told : tie.Need-enum-told
 enum-told c = search needs
 
--- src/lib.rt:95:1
 returns : tie.Need-returns
 unfolding last
 returns c = found (last _) (sym (c .before .before .before .before .number-at .ensures) ∙ c .before .before .number .given .1) (search choices)
 
--- src/lib.rt:95:1
 returns-2 : tie.Need-returns-2
 unfolding last
 returns-2 c = found (last _) (sym (c .before .before .before .before .number-at .ensures) ∙ c .before .before .number .given .1) (search choices)
 
--- src/lib.rt:95:1
 returns-3 : tie.Need-returns-3
 unfolding last
 returns-3 c = found (last _) (sym (c .before .before .number-at .ensures) ∙ c .enum-told .given .1) refl

@@ -1,45 +1,34 @@
+-- `number_at` hands `number_from` the bytes from the place on.
+-- Assumes nothing.
 use borrow.Author.Needs.{needs}
 use Rattle.lines.specs.Command.{numberAt}
 use Rattle.lines.proofs.number_at.Statement.{statement}
 use Rattle.lines.proofs.number_at.Tie as tie
-use Rattle.lines.proofs.number_at.Reads as reads
-use Rattle.lines.proofs.number_at.Lts as lts
-use Rattle.lines.proofs.byte_at.Reads as byte-at-reads
-use Rattle.lines.proofs.number_from.Reads as number-from-reads
 
--- src/lib.rt:86:9
 byte-at-requires : tie.Need-byte-at-requires
 byte-at-requires c κs = search needs
 
--- src/lib.rt:87:23
 add-byte-at : tie.Need-add-byte-at
 add-byte-at c = search needs
 
--- src/lib.rt:87:9
 byte-at-requires-2 : tie.Need-byte-at-requires-2
 byte-at-requires-2 c κs = search needs
 
--- src/lib.rt:88:23
 add-byte-at-2 : tie.Need-add-byte-at-2
 add-byte-at-2 c = search needs
 
--- src/lib.rt:88:9
 byte-at-requires-3 : tie.Need-byte-at-requires-3
 byte-at-requires-3 c κs = search needs
 
--- src/lib.rt:89:23
 add-byte-at-3 : tie.Need-add-byte-at-3
 add-byte-at-3 c = search needs
 
--- src/lib.rt:89:9
 byte-at-requires-4 : tie.Need-byte-at-requires-4
 byte-at-requires-4 c κs = search needs
 
--- src/lib.rt:85:5
 number-from-requires : tie.Need-number-from-requires
 number-from-requires c κs = search needs
 
--- src/lib.rt:81:1
 returns : tie.Need-returns
 unfolding numberAt
 returns c = cc
