@@ -1,1 +1,484 @@
 // The five calls on an image of edition 1.
+//
+// 01, "What a call says". A call checks the image, refuses by the lowest number that applies, reads the parts that it needs, and
+// stores the bytes of the parts that it changes.
+use link::Link;
+use stage::Answer;
+use stage::Event;
+use stage::Private;
+use stage::Reply;
+use stage::Shared;
+use stage::Stepped;
+ghost use mathlib.Core.Path.{_≡_};
+ghost use mathlib.Core.Bool.{true, false, _&&_};
+ghost use mathlib.Core.List.{[], _++_};
+ghost use Prim.Native.Nat.{_+_, _-_, _*_, _^_, _≤_, _<_};
+ghost use lib.Dec.{leb};
+ghost use lib.ListN.{length, set, take, drop};
+ghost use lib.Seq.{paste};
+ghost use Rattle.link.specs.Count.{next, size};
+ghost use Rattle.stage.specs.Calls as Calls;
+ghost use Rattle.stage.specs.Calls.{setUp, beginAcquisition, beginRelease, takeLog, admits, capacity};
+ghost use Rattle.stage.specs.Table.{idle, untouched, freshTable, afterStep, logTaken};
+ghost use Rattle.layout.specs.Layout.{lengthFor, two, privateAt, sharedAt, read, recordOf, recordsOf, logOf, trailerOf, put};
+ghost use Rattle.layout.proofs.Stores.{puts};
+ghost use Rattle.layout.proofs.Changes.{privateBytes, sharedBytes, lengthBytes};
+ghost use Rattle.soundness.specs.SoundImage.{sound};
+ghost use Rattle.image.specs.Call.{Does, buffer};
+ghost use Rattle.image.specs.Inside.{Framed, IsModule, Finds, Looks, partsPut};
+
+// Where the parts of a sound image lie: its n, the places of record 1, of the log and of the trailer, and how many entries are held.
+struct Frame {
+    n: u16,
+    first: usize,
+    log: usize,
+    trailer: usize,
+    held: u16,
+}
+
+// A module of a sound image: the place of its record, and its private part.
+struct Module {
+    frame: Frame,
+    number: u8,
+    at: usize,
+    me: Private,
+}
+
+// What the search for a module comes to.
+enum Found {
+    // A refusal, by its number.
+    Refused(u8),
+    Module(Module),
+}
+
+// A step, before it is stored: the place of the record that it looks at, and what it leaves.
+struct Looked {
+    at: usize,
+    stepped: Stepped,
+}
+
+// A byte as a wider number.
+fn wide(x: u8) -> u16
+    ensures { λ r. ⌜ (r ≡ x) × (r < 256) ⌝ }
+{
+    x as u16
+}
+
+// The number of two bytes at a place.
+fn two_at(image: &[u8], at: usize) -> u16
+    requires { ⌜ at + 2 ≤ length (now image) ⌝ }
+    ensures { λ r. ⌜ r ≡ two (now (image .entry)) at ⌝ }
+{
+    256 * wide(image[at]) + wide(image[at + 1])
+}
+
+// Where the parts of this image lie.
+fn frame_of(image: &[u8]) -> Frame
+    requires { ⌜ sound (now image) ≡ true ⌝ }
+    ensures { λ r. ⌜ Framed (now (image .entry)) r ⌝ }
+{
+    let trailer = image.len() - 12;
+    let n = two_at(image, trailer + 2);
+    Frame {
+        n,
+        first: image.len() - (16 * (n as usize) + 268),
+        log: image.len() - 268,
+        trailer,
+        held: two_at(image, trailer + 4),
+    }
+}
+
+// The private part of the record at a place.
+fn private_at(image: &[u8], at: usize) -> Private
+    requires { ⌜ at + 16 ≤ length (now image) ⌝ }
+    ensures { λ r. ⌜ r ≡ privateAt (now (image .entry)) at ⌝ }
+{
+    Private {
+        stage: image[at],
+        own: image[at + 1],
+        prev: image[at + 2],
+        w: Link {
+            pointer: image[at + 3],
+            mark: image[at + 4],
+            count: two_at(image, at + 6),
+        },
+        s: image[at + 14],
+    }
+}
+
+// The shared part of the record at a place.
+fn shared_at(image: &[u8], at: usize) -> Shared
+    requires { ⌜ at + 16 ≤ length (now image) ⌝ }
+    ensures { λ r. ⌜ r ≡ sharedAt (now (image .entry)) at ⌝ }
+{
+    Shared {
+        link: Link {
+            pointer: image[at + 8],
+            mark: image[at + 9],
+            count: two_at(image, at + 10),
+        },
+        priority: image[at + 12],
+        locked: image[at + 13],
+    }
+}
+
+// Stores a private part in the record at a place.
+fn put_private(image: &mut [u8], at: usize, me: Private)
+    requires { ⌜ at + 16 ≤ length (now image) ⌝ }
+    ensures { λ r. ⌜ now (image .exit) ≡ puts (now (image .entry)) at (privateBytes me) ⌝ }
+{
+    image[at] = me.stage;
+    image[at + 1] = me.own;
+    image[at + 2] = me.prev;
+    image[at + 3] = me.w.pointer;
+    image[at + 4] = me.w.mark;
+    image[at + 6] = (me.w.count / 256) as u8;
+    image[at + 7] = (me.w.count % 256) as u8;
+    image[at + 14] = me.s;
+}
+
+// Stores a shared part in the record at a place.
+fn put_shared(image: &mut [u8], at: usize, its: Shared)
+    requires { ⌜ at + 16 ≤ length (now image) ⌝ }
+    ensures { λ r. ⌜ now (image .exit) ≡ puts (now (image .entry)) at (sharedBytes its) ⌝ }
+{
+    image[at + 8] = its.link.pointer;
+    image[at + 9] = its.link.mark;
+    image[at + 10] = (its.link.count / 256) as u8;
+    image[at + 11] = (its.link.count % 256) as u8;
+    image[at + 12] = its.priority;
+    image[at + 13] = its.locked;
+}
+
+// Stores the log length in the trailer at a place.
+fn put_length(image: &mut [u8], at: usize, k: u16)
+    requires { ⌜ at + 12 ≤ length (now image) ⌝ }
+    ensures { λ r. ⌜ now (image .exit) ≡ puts (now (image .entry)) at (lengthBytes k) ⌝ }
+{
+    image[at + 4] = (k / 256) as u8;
+    image[at + 5] = (k % 256) as u8;
+}
+
+// The place of module p's record.
+fn place(first: usize, p: u8) -> usize
+    requires { ⌜ (1 ≤ p) × (first + 16 * p < 2 ^ 64) ⌝ }
+    ensures { λ r. ⌜ r ≡ first + 16 * (p - 1) ⌝ }
+{
+    first + 16 * (p as usize - 1)
+}
+
+// The module that a call names, or the refusal of an unsound image, or of a number that is no module's.
+fn find(image: &[u8], p: u32) -> Found
+    ensures { λ r. ⌜ Finds (now (image .entry)) p r ⌝ }
+{
+    if !soundness::sound(image) {
+        return Found::Refused(1);
+    }
+    let frame = frame_of(image);
+    let n = frame.n;
+    if p < 1 {
+        return Found::Refused(2);
+    }
+    if (n as u32) < p {
+        return Found::Refused(2);
+    }
+    let number = p as u8;
+    let at = place(frame.first, number);
+    Found::Module(Module {
+        frame,
+        number,
+        at,
+        me: private_at(image, at),
+    })
+}
+
+// A module's step, by value: its row on the one shared part that the row looks at.
+fn look(image: &[u8], m: Module) -> Looked
+    requires { ⌜ IsModule (now image) m ⌝ }
+    ensures { λ r. ⌜ Looks (now (image .entry)) m r ⌝ }
+{
+    let at = place(m.frame.first, stage::looks_at(m.me, m.number));
+    let trailer = m.frame.trailer;
+    Looked {
+        at,
+        stepped: stage::step(m.number, m.me, shared_at(image, at), image[trailer]),
+    }
+}
+
+// Whether the step would admit and the log holds 256.
+fn overfills(event: Event, held: u16) -> bool
+    ensures { λ r. ⌜ r ≡ (admits event && leb capacity held) ⌝ }
+{
+    match event {
+        Event::Admitted(_) => 256 <= held,
+        _ => false,
+    }
+}
+
+// Logs the admission of module p.
+fn admit(image: &mut [u8], frame: Frame, p: u8)
+    requires { ⌜ (frame .log + frame .held < length (now image)) × (frame .trailer + 12 ≤ length (now image)) × (frame .held < capacity) ⌝ }
+    ensures { λ r. ⌜ now (image .exit) ≡ puts (set (now (image .entry)) (frame .log + frame .held) p) (frame .trailer) (lengthBytes (frame .held + 1)) ⌝ }
+{
+    let at = frame.log + frame.held as usize;
+    image[at] = p;
+    put_length(image, frame.trailer, frame.held + 1);
+}
+
+// Stores the parts that a module's step leaves: its private part, the shared part that it looked at, and the lock word.
+fn put_parts(image: &mut [u8], m: Module, l: Looked)
+    requires { ⌜ Looks (now image) m l ⌝ }
+    ensures { λ r. ⌜ now (image .exit) ≡ partsPut (now (image .entry)) m l ⌝ }
+{
+    let s = l.stepped;
+    put_private(image, m.at, s.me);
+    put_shared(image, l.at, s.its);
+    let trailer = m.frame.trailer;
+    image[trailer] = s.lock;
+}
+
+// Stores all that a module's step leaves, its admission too.
+fn store(image: &mut [u8], m: Module, l: Looked)
+    requires { ⌜ Looks (now image) m l ⌝ }
+    requires { ⌜ (admits (l .stepped .answer .event) && leb capacity (m .frame .held)) ≡ false ⌝ }
+    ensures { λ r. ⌜ now (image .exit) ≡ put (afterStep (next size) (read (now (image .entry))) (m .number)) (now (image .entry)) ⌝ }
+{
+    put_parts(image, m, l);
+    let s = l.stepped;
+    let answer = s.answer;
+    let event = answer.event;
+    match event {
+        Event::Admitted(p) => admit(image, m.frame, p),
+        _ => {}
+    }
+}
+
+// Copies the first n bytes of src into dst, from a place on.
+fn copy(dst: &mut [u8], at: usize, src: &[u8], n: usize)
+    requires { ⌜ (at + n ≤ length (now dst)) × (n ≤ length (now src)) ⌝ }
+    ensures { λ r. ⌜ now (dst .exit) ≡ paste (now (dst .entry)) at (now (src .entry)) n ⌝ }
+{
+    let mut i = 0;
+    while i < n {
+        dst[at + i] = src[i];
+        i += 1;
+    }
+}
+
+// The log bytes of an empty log.
+fn empty_log() -> [u8; 256]
+    ensures { λ r. ⌜ r ≡ logOf [] ⌝ }
+{
+    [0u8; 256]
+}
+
+// The log bytes of an image, from the log's place on.
+fn log_at(image: &[u8], at: usize) -> [u8; 256]
+    requires { ⌜ at + capacity ≤ length (now image) ⌝ }
+    ensures { λ r. ⌜ r ≡ take capacity (drop at (now (image .entry))) ⌝ }
+{
+    let mut log = empty_log();
+    copy(&mut log, 0, &image[at..], 256);
+    log
+}
+
+// Hands the entries of an image's log over to the buffer that is lent for them.
+fn hand_over(image: &[u8], frame: Frame, log: &mut [u8])
+    requires { ⌜ Framed (now image) frame ⌝ }
+    requires { ⌜ frame .held ≤ length (now log) ⌝ }
+    ensures { λ r. ⌜ now (log .exit) ≡ read (now (image .entry)) .log ++ drop (length (read (now (image .entry)) .log)) (now (log .entry)) ⌝ }
+{
+    let entries = log_at(image, frame.log);
+    copy(log, 0, &entries, frame.held as usize);
+}
+
+// Makes the log of an image empty and zero.
+fn clear_log(image: &mut [u8], frame: Frame)
+    requires { ⌜ Framed (now image) frame ⌝ }
+    ensures { λ r. ⌜ now (image .exit) ≡ put (logTaken (read (now (image .entry)))) (now (image .entry)) ⌝ }
+{
+    let empty = empty_log();
+    copy(image, frame.log, &empty, 256);
+    put_length(image, frame.trailer, 0);
+}
+
+// The bytes of a fresh record: zero but for the fresh link.
+fn fresh_record() -> [u8; 16]
+    ensures { λ r. ⌜ r ≡ recordOf idle untouched ⌝ }
+{
+    let l = Link::FRESH;
+    let mut r = [0u8; 16];
+    r[8] = l.pointer;
+    r[9] = l.mark;
+    r[10] = (l.count / 256) as u8;
+    r[11] = (l.count % 256) as u8;
+    r
+}
+
+// The bytes of the trailer of a fresh image: zero but for edition, n and distance.
+fn fresh_trailer(n: u16) -> [u8; 12]
+    requires { ⌜ n ≤ 64 ⌝ }
+    ensures { λ r. ⌜ r ≡ trailerOf (freshTable n) ⌝ }
+{
+    let distance = 16 * n + 256;
+    let mut r = [0u8; 12];
+    r[1] = 1;
+    r[2] = (n / 256) as u8;
+    r[3] = (n % 256) as u8;
+    r[10] = (distance / 256) as u8;
+    r[11] = (distance % 256) as u8;
+    r
+}
+
+// Writes n fresh records from a place on.
+fn put_records(image: &mut [u8], first: usize, n: usize)
+    requires { ⌜ first + 16 * n ≤ length (now image) ⌝ }
+    ensures { λ r. ⌜ now (image .exit) ≡ paste (now (image .entry)) first (recordsOf n (freshTable n)) (16 * n) ⌝ }
+{
+    let fresh = fresh_record();
+    let mut k = 0;
+    while k < n {
+        copy(image, first + 16 * k, &fresh, 16);
+        k += 1;
+    }
+}
+
+// Writes a fresh image of n modules at the end of a buffer.
+fn put_fresh(image: &mut [u8], n: u16)
+    requires { ⌜ (n ≤ 64) × (lengthFor n ≤ length (now image)) ⌝ }
+    ensures { λ r. ⌜ now (image .exit) ≡ put (freshTable n) (now (image .entry)) ⌝ }
+{
+    let end = image.len();
+    let count = n as usize;
+    put_records(image, end - (16 * count + 268), count);
+    let log = empty_log();
+    copy(image, end - 268, &log, 256);
+    let trailer = fresh_trailer(n);
+    copy(image, end - 12, &trailer, 12);
+}
+
+// Begins an acquisition by a module that was found.
+fn begin_acquisition_of(image: &mut [u8], m: Module, priority: u32) -> Reply
+    requires { ⌜ IsModule (now image) m ⌝ }
+    ensures { λ r. ⌜ Does (beginAcquisition (m .number) priority) (now (image .entry)) r (now (image .exit)) ⌝ }
+{
+    if priority < 1 {
+        return Reply::Refused(3);
+    }
+    if 254 < priority {
+        return Reply::Refused(3);
+    }
+    let stage = m.me.stage;
+    if stage != 0 {
+        return Reply::Refused(4);
+    }
+    let own = priority as u8;
+    let its = shared_at(image, m.at);
+    put_private(image, m.at, stage::begun_acquisition(m.me, own));
+    put_shared(image, m.at, stage::with_priority(its, own));
+    Reply::Answered(Answer::DONE)
+}
+
+// Begins a release by a module that was found.
+fn begin_release_of(image: &mut [u8], m: Module) -> Reply
+    requires { ⌜ IsModule (now image) m ⌝ }
+    ensures { λ r. ⌜ Does (beginRelease (m .number)) (now (image .entry)) r (now (image .exit)) ⌝ }
+{
+    let stage = m.me.stage;
+    if stage != 13 {
+        return Reply::Refused(4);
+    }
+    put_private(image, m.at, stage::begun_release(m.me));
+    Reply::Answered(Answer::DONE)
+}
+
+// One step of a module that was found.
+fn step_of(image: &mut [u8], m: Module) -> Reply
+    requires { ⌜ IsModule (now image) m ⌝ }
+    ensures { λ r. ⌜ Does (Calls.step (m .number)) (now (image .entry)) r (now (image .exit)) ⌝ }
+{
+    let stage = m.me.stage;
+    if stage == 0 {
+        return Reply::Refused(4);
+    }
+    if stage == 13 {
+        return Reply::Refused(4);
+    }
+    let l = look(image, m);
+    let s = l.stepped;
+    let answer = s.answer;
+    let event = answer.event;
+    if overfills(event, m.frame.held) {
+        return Reply::Refused(5);
+    }
+    store(image, m, l);
+    Reply::Answered(answer)
+}
+
+// Sets up a fresh table of n modules.
+pub fn set_up(image: &mut [u8], n: u32) -> Reply
+    ensures { λ r. ⌜ Does (setUp n) (now (image .entry)) r (now (image .exit)) ⌝ }
+{
+    if n < 1 {
+        return Reply::Refused(7);
+    }
+    if 64 < n {
+        return Reply::Refused(7);
+    }
+    if image.len() < 16 * (n as usize) + 268 {
+        return Reply::Refused(8);
+    }
+    put_fresh(image, n as u16);
+    Reply::Answered(Answer::DONE)
+}
+
+// Begins an acquisition by the module p, with a priority.
+pub fn begin_acquisition(image: &mut [u8], p: u32, priority: u32) -> Reply
+    ensures { λ r. ⌜ Does (beginAcquisition p priority) (now (image .entry)) r (now (image .exit)) ⌝ }
+{
+    let found = find(image, p);
+    match found {
+        Found::Refused(k) => Reply::Refused(k),
+        Found::Module(m) => begin_acquisition_of(image, m, priority),
+    }
+}
+
+// Begins a release by the module p.
+pub fn begin_release(image: &mut [u8], p: u32) -> Reply
+    ensures { λ r. ⌜ Does (beginRelease p) (now (image .entry)) r (now (image .exit)) ⌝ }
+{
+    let found = find(image, p);
+    match found {
+        Found::Refused(k) => Reply::Refused(k),
+        Found::Module(m) => begin_release_of(image, m),
+    }
+}
+
+// One step of the module p.
+pub fn step(image: &mut [u8], p: u32) -> Reply
+    ensures { λ r. ⌜ Does (Calls.step p) (now (image .entry)) r (now (image .exit)) ⌝ }
+{
+    let found = find(image, p);
+    match found {
+        Found::Refused(k) => Reply::Refused(k),
+        Found::Module(m) => step_of(image, m),
+    }
+}
+
+// Takes the log: its entries go to the buffer that is lent for them.
+pub fn take_log(image: &mut [u8], log: &mut [u8]) -> Reply
+    ensures { λ r. ⌜ Does (takeLog (length (now (log .entry)))) (now (image .entry)) r (now (image .exit)) ⌝ }
+    ensures { λ r. ⌜ now (log .exit) ≡ buffer (now (image .entry)) (now (log .entry)) ⌝ }
+{
+    if !soundness::sound(image) {
+        return Reply::Refused(1);
+    }
+    let frame = frame_of(image);
+    let held = frame.held;
+    if log.len() < held as usize {
+        return Reply::Refused(6);
+    }
+    hand_over(image, frame, log);
+    clear_log(image, frame);
+    Reply::Answered(Answer::taken(held))
+}

@@ -1,1 +1,2 @@
 pub mod SoundImage
+pub mod Parts

@@ -1,0 +1,10 @@
+pub mod Sound
+pub mod Refusals
+pub mod Modules
+pub mod Events
+pub mod Stored
+pub mod Named
+pub mod Copies
+pub mod Taken
+pub mod Fresh
+pub mod Outcomes

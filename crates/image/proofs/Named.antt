@@ -1,0 +1,114 @@
+-- What the calls that name a module say and leave, once it is found.
+-- Assumes nothing.
+use mathlib.Core.Path.{_≡_, refl, sym, _∙_, ap}
+use mathlib.Core.Bool.{Bool, true, false, not, _&&_, _||_}
+use mathlib.Core.List.{List, [], _∷_, _++_}
+use mathlib.Core.Option.{none}
+use Prim.Native.Nat.{ℕ, _≤_}
+use borrow.Author.Tests.{ne-eqb}
+use lib.Dec.{eqb, leb}
+use lib.ListN.{length}
+use Rattle.link.specs.Count.{next, size}
+use Rattle.stage.specs.Answers.{answerOf}
+use Rattle.stage.specs.Calls.{Call, beginAcquisition, beginRelease, step, within, admits, capacity, refusing, refusals, answered, after}
+use Rattle.stage.specs.Table.{begunAcquisition, begunRelease, stepOf, afterStep}
+use Rattle.stage.specs.declared.Event.the-variants.{Done}
+use Rattle.stage.specs.declared.Private.{Private}
+use Rattle.stage.specs.declared.Stepped.{Stepped}
+use Rattle.stage.specs.declared.Reply.the-variants.{Refused, Answered}
+use Rattle.layout.specs.Layout.{held, read, put}
+use Rattle.image.specs.Call.{refused, Does}
+use Rattle.image.specs.Inside.{given, unfound, IsModule, Looks}
+use Rattle.image.specs.declared.Module.{Module}
+use Rattle.image.specs.declared.Looked.{Looked}
+use Rattle.image.proofs.Modules.{entries}
+use Rattle.image.proofs.Refusals.{in-range, refuses, accepts, found}
+
+-- what each asks of a module that was found
+abbrev acquisition-asks : List ℕ → ℕ → ℕ → List (Bool × ℕ)
+acquisition-asks b p r = (not (within 1 254 r), 3) ∷ (not (eqb (read b .private p .stage) 0), 4) ∷ []
+
+pub acquisition-refused : (b : List ℕ) (p r : ℕ) → refused (beginAcquisition p r) b ≡ unfound b p ++ acquisition-asks b p r
+unfolding refused refusals unfound read
+acquisition-refused b p r = refl
+
+abbrev release-asks : List ℕ → ℕ → List (Bool × ℕ)
+release-asks b p = (not (eqb (read b .private p .stage) 13), 4) ∷ []
+
+pub release-refused : (b : List ℕ) (p : ℕ) → refused (beginRelease p) b ≡ unfound b p ++ release-asks b p
+unfolding refused refusals unfound read
+release-refused b p = refl
+
+abbrev step-asks : List ℕ → ℕ → List (Bool × ℕ)
+step-asks b p =
+    (eqb (read b .private p .stage) 0 || eqb (read b .private p .stage) 13, 4)
+    ∷ (admits (stepOf (next size) (read b) p .answer .event) && leb capacity (length (read b .log)), 5)
+    ∷ []
+
+pub step-refused : (b : List ℕ) (p : ℕ) → refused (step p) b ≡ unfound b p ++ step-asks b p
+unfolding refused refusals unfound read
+step-refused b p = refl
+
+module _ (b : List ℕ) (m : Module) (is : IsModule b m) where
+  abbrev p : ℕ
+  p = m .number
+
+  stage-is : read b .private p .stage ≡ m .me .stage
+  stage-is = ap (λ (x : Private). x .stage) (sym (is .me-is))
+
+  -- past the search only what the call asks is left
+  asked : (c : Call) (es : List (Bool × ℕ)) → refused c b ≡ unfound b p ++ es → given (refused c b) ≡ given es
+  asked c es asks = found c b p es asks (is .framed .is) (is .least) (is .most)
+
+  -- begin an acquisition
+  module _ (r : ℕ) where
+    acquisition-given : given (refused (beginAcquisition p r) b) ≡ given (acquisition-asks b p r)
+    acquisition-given = asked (beginAcquisition p r) (acquisition-asks b p r) (acquisition-refused b p r)
+
+    pub no-priority : not (within 1 254 r) ≡ true → Does (beginAcquisition p r) b (Refused 3) b
+    unfolding given refusing
+    no-priority outside = refuses (beginAcquisition p r) b 3 (acquisition-given ∙ simp outside)
+
+    module _ (least : 1 ≤ r) (most : r ≤ 254) where
+      pub not-idle : (m .me .stage ≡ 0 → ⊥) → Does (beginAcquisition p r) b (Refused 4) b
+      unfolding given refusing
+      not-idle h = refuses (beginAcquisition p r) b 4 (acquisition-given ∙ simp (in-range 1 254 r least most, stage-is, ne-eqb _ _ h))
+
+      pub acquires : {b′ : List ℕ} → m .me .stage ≡ 0 → b′ ≡ put (begunAcquisition (read b) p r) b → Does (beginAcquisition p r) b (Answered (answerOf Done)) b′
+      unfolding given refusing answered after
+      acquires h put-is = accepts (beginAcquisition p r) b (acquisition-given ∙ simp (in-range 1 254 r least most, stage-is, h)) refl put-is
+
+  -- begin a release
+  release-given : given (refused (beginRelease p) b) ≡ given (release-asks b p)
+  release-given = asked (beginRelease p) (release-asks b p) (release-refused b p)
+
+  pub not-inside : (m .me .stage ≡ 13 → ⊥) → Does (beginRelease p) b (Refused 4) b
+  unfolding given refusing
+  not-inside h = refuses (beginRelease p) b 4 (release-given ∙ simp (stage-is, ne-eqb _ _ h))
+
+  pub releases : {b′ : List ℕ} → m .me .stage ≡ 13 → b′ ≡ put (begunRelease (read b) p) b → Does (beginRelease p) b (Answered (answerOf Done)) b′
+  unfolding given refusing answered after
+  releases h put-is = accepts (beginRelease p) b (release-given ∙ simp (stage-is, h)) refl put-is
+
+  -- take a step
+  step-given : given (refused (step p) b) ≡ given (step-asks b p)
+  step-given = asked (step p) (step-asks b p) (step-refused b p)
+
+  -- at 0 and 13 there is none
+  pub no-step : (k : ℕ) → (eqb k 0 || eqb k 13) ≡ true → m .me .stage ≡ k → Does (step p) b (Refused 4) b
+  unfolding given refusing
+  no-step k none·k e = refuses (step p) b 4 (step-given ∙ simp (stage-is, e, none·k))
+
+  module _ (l : Looked) (looks : Looks b m l) (neither : m .me .stage ≡ 0 → ⊥) (nor : m .me .stage ≡ 13 → ⊥) where
+    past-stage : (t : Bool) → (admits (l .stepped .answer .event) && leb capacity (m .frame .held)) ≡ t → given (refused (step p) b) ≡ given ((t, 5) ∷ [])
+    unfolding given refusing
+    past-stage t e =
+        step-given ∙ simp (stage-is, ne-eqb _ _ neither, ne-eqb _ _ nor, ← looks .stepped-is, entries b (m .frame) (is .framed), e)
+
+    pub full : (admits (l .stepped .answer .event) && leb capacity (m .frame .held)) ≡ true → Does (step p) b (Refused 5) b
+    unfolding given refusing
+    full e = refuses (step p) b 5 (past-stage true e)
+
+    pub stepped : {b′ : List ℕ} → (admits (l .stepped .answer .event) && leb capacity (m .frame .held)) ≡ false → b′ ≡ put (afterStep (next size) (read b) p) b → Does (step p) b (Answered (l .stepped .answer)) b′
+    unfolding given refusing answered after
+    stepped e put-is = accepts (step p) b (past-stage false e) (ap (λ (s : Stepped). Answered (s .answer)) (looks .stepped-is)) put-is

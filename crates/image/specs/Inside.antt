@@ -1,0 +1,66 @@
+-- What the private functions of this crate say of what they hand one another. No public contract cites this file.
+use mathlib.Core.Path.{_≡_}
+use mathlib.Core.Bool.{Bool, true, not}
+use mathlib.Core.List.{List, [], _∷_}
+use mathlib.Core.Option.{Option, none, some}
+use Prim.Native.Nat.{ℕ, _≤_}
+use lib.ListN.{length, set}
+use Rattle.link.specs.Count.{next, size}
+use Rattle.stage.specs.Calls.{within, capacity, refusing}
+use Rattle.stage.specs.Rows.{looksAt}
+use Rattle.stage.specs.Table.{stepOf}
+use Rattle.layout.specs.Layout.{lengthFor, trailerAt, modules, logAt, firstAt, recordAt, held, read}
+use Rattle.layout.proofs.Stores.{puts}
+use Rattle.layout.proofs.Changes.{privateBytes, sharedBytes}
+use Rattle.soundness.specs.SoundImage.{sound}
+use Rattle.image.specs.declared.Frame.{Frame}
+use Rattle.image.specs.declared.Module.{Module}
+use Rattle.image.specs.declared.Found.{Found}
+use Rattle.image.specs.declared.Found.the-variants as found
+use Rattle.image.specs.declared.Looked.{Looked}
+
+-- where the parts of a sound image lie
+pub record Framed (b : List ℕ) (f : Frame) : Type 0 where
+  pub is : sound b ≡ true
+  pub n-is : f .n ≡ modules b
+  pub first-is : f .first ≡ firstAt b
+  pub log-is : f .log ≡ logAt b
+  pub trailer-is : f .trailer ≡ trailerAt b
+  pub held-is : f .held ≡ held b
+  pub fits : lengthFor (modules b) ≤ length b
+  pub least : 1 ≤ modules b
+  pub most : modules b ≤ 64
+  pub heldFits : held b ≤ capacity
+
+-- a module of a sound image
+pub record IsModule (b : List ℕ) (m : Module) : Type 0 where
+  pub framed : Framed b (m .frame)
+  pub least : 1 ≤ m .number
+  pub most : m .number ≤ modules b
+  pub at-is : m .at ≡ recordAt b (m .number)
+  pub me-is : m .me ≡ read b .private (m .number)
+
+-- the number that is given for a list of refusals, if one is
+unfoldable pub given : List (Bool × ℕ) → Option ℕ
+given es = refusing es some none
+
+-- the refusals of every call that names a module
+unfoldable pub unfound : List ℕ → ℕ → List (Bool × ℕ)
+unfound b p = (not (sound b), 1) ∷ (not (within 1 (modules b) p), 2) ∷ []
+
+abbrev pub Finds : List ℕ → ℕ → Found → Type 0
+Finds b p (found.Refused k) = given (unfound b p) ≡ some k
+Finds b p (found.Module m) = IsModule b m × (m .number ≡ p)
+
+-- a module's step, before it is stored
+pub record Looks (b : List ℕ) (m : Module) (l : Looked) : Type 0 where
+  pub is : IsModule b m
+  pub least : 1 ≤ looksAt (m .number) (m .me)
+  pub most : looksAt (m .number) (m .me) ≤ modules b
+  pub at-is : l .at ≡ recordAt b (looksAt (m .number) (m .me))
+  pub stepped-is : l .stepped ≡ stepOf (next size) (read b) (m .number)
+
+-- the image with the parts that a step leaves stored
+unfoldable pub partsPut : List ℕ → Module → Looked → List ℕ
+partsPut b m l =
+    set (puts (puts b (m .at) (privateBytes (l .stepped .me))) (l .at) (sharedBytes (l .stepped .its))) (m .frame .trailer) (l .stepped .lock)

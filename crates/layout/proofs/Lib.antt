@@ -1,0 +1,4 @@
+pub mod Stores
+pub mod Changes
+pub mod Rewritten
+pub mod ReadBack
