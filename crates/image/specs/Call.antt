@@ -1,7 +1,7 @@
 -- The five calls on an image: refuse by number, or the machine's call between reading and writing. Document 01, "What a call says".
 use Prim.Native.Nat.{ℕ}
 use mathlib.Core.Path.{_≡_}
-use mathlib.Core.Bool.{Bool, true, false, not, _&&_}
+use mathlib.Core.Bool.{Bool, true, false, cond, not, _&&_}
 use mathlib.Core.List.{List, [], _∷_, _++_}
 use lib.Dec.{leb}
 use lib.ListN.{length, drop}
@@ -40,6 +40,10 @@ image c b = refusing (refused c b) (λ k. b) (put (after (next size) c (read b))
 unfoldable pub buffer : List ℕ → List ℕ → List ℕ
 buffer b lent =
     refusing (refused (takeLog (length lent)) b) (λ k. lent) (read b .log ++ drop (length (read b .log)) lent)
+
+-- "`lock` with the lock word .. an unsound image `lock 0`" (01, "The program `turns`")
+unfoldable pub lockWord : List ℕ → ℕ
+lockWord b = cond (sound b) (read b .lock) 0
 
 -- what every contract of a call says: from the image b the call c says r and leaves the image b′
 pub record Does (c : Call) (b : List ℕ) (r : Reply) (b′ : List ℕ) : Type 0 where

@@ -1,4 +1,4 @@
-// The five calls on an image of edition 1.
+// The five calls on an image of edition 1, and its lock word.
 //
 // 01, "What a call says". A call checks the image, refuses by the lowest number that applies, reads the parts that it needs, and
 // stores the bytes of the parts that it changes.
@@ -24,7 +24,7 @@ ghost use Rattle.layout.specs.Layout.{lengthFor, two, privateAt, sharedAt, read
 ghost use Rattle.layout.proofs.Stores.{puts};
 ghost use Rattle.layout.proofs.Changes.{privateBytes, sharedBytes, lengthBytes};
 ghost use Rattle.soundness.specs.SoundImage.{sound};
-ghost use Rattle.image.specs.Call.{Does, buffer};
+ghost use Rattle.image.specs.Call.{Does, buffer, lockWord};
 ghost use Rattle.image.specs.Inside.{Framed, IsModule, Finds, Looks, partsPut};
 
 // Where the parts of a sound image lie: its n, the places of record 1, of the log and of the trailer, and how many entries are held.
@@ -413,6 +413,17 @@ fn step_of(image: &mut [u8], m: Module) -> Reply
     }
     store(image, m, l);
     Reply::Answered(answer)
+}
+
+// The lock word of an image, or 0 where it is unsound. It is no call, and changes nothing.
+pub fn lock_word(image: &[u8]) -> u8
+    ensures { λ r. ⌜ r ≡ lockWord (now (image .entry)) ⌝ }
+{
+    if !soundness::sound(image) {
+        return 0;
+    }
+    let trailer = frame_of(image).trailer;
+    image[trailer]
 }
 
 // Sets up a fresh table of n modules.

@@ -35,6 +35,10 @@ taken b x y z e same = same ∙ sym (ap (λ (t : Bool). cond t x y) e)
 pub passed : {A : Type 0} (b : Bool) (x y z : A) → b ≡ false → z ≡ y → z ≡ cond b x y
 passed b x y z e same = same ∙ sym (ap (λ (t : Bool). cond t x y) e)
 
+-- a function of what was asked, at what it was found to be
+pub found : {A B : Type 0} (f : A → B) {x y : A} {z : B} → x ≡ y → z ≡ f y → z ≡ f x
+found f e same = same ∙ sym (ap f e)
+
 -- a callee that was asked, and its answer turned round
 pub said-not : (r a t : Bool) → r ≡ a → not r ≡ t → not a ≡ t
 said-not r a t e said = ap not (sym e) ∙ said

@@ -8,8 +8,6 @@ use lib.Dec.{eqb, leb, ltb}
 use lib.ListN.{length, getD}
 use Rattle.lines.specs.declared.Command.{Command}
 use Rattle.lines.specs.declared.Command.the-variants.{SetUp, BeginAcquisition, BeginRelease, Step, Malformed}
-use Rattle.lines.specs.declared.Last.{Last}
-use Rattle.lines.specs.declared.Last.the-variants.{Is, Not}
 use Rattle.lines.specs.declared.Number.{Number}
 use Rattle.lines.specs.declared.Number.the-variants.{Read, Nothing}
 
@@ -20,47 +18,50 @@ byte l at = getD l at 0
 abbrev pub digit : ℕ → Bool
 digit x = leb 48 x && leb x 57
 
--- "numbers are decimal, 1 to 3 digits, no leading zero but `0` itself": the number of the bytes a, b, c and so on, and the place after it, if it begins at `at`
-unfoldable pub longNumber : ℕ → ℕ → ℕ → ℕ → ℕ → Number
-longNumber a b c d at =
-    cond (eqb a 48) Nothing
-    (cond (not (digit c)) (Read (10 * (a - 48) + (b - 48)) (at + 2))
-    (cond (not (digit d)) (Read (100 * (a - 48) + 10 * (b - 48) + (c - 48)) (at + 3))
-    Nothing))
+-- the number of the digits a, b and c
+abbrev pub value : ℕ → ℕ → ℕ → ℕ
+value a b c = 100 * (a - 48) + 10 * (b - 48) + (c - 48)
 
+-- "numbers are decimal, 1 to 3 digits, no leading zero but `0` itself": what is read where the bytes a, b, c and d stand, a at the place `at`
 unfoldable pub numberFrom : ℕ → ℕ → ℕ → ℕ → ℕ → Number
 numberFrom a b c d at =
     cond (not (digit a)) Nothing
-    (cond (not (digit b)) (Read (a - 48) (at + 1))
-    (longNumber a b c d at))
+    (cond (not (digit b)) (Read (value 48 48 a) (at + 1))
+    (cond (eqb a 48) Nothing
+    (cond (not (digit c)) (Read (value 48 a b) (at + 2))
+    (cond (not (digit d)) (Read (value a b c) (at + 3))
+    Nothing))))
 
 -- the number that stands at a place of a line
 unfoldable pub numberAt : List ℕ → ℕ → Number
 numberAt l at = numberFrom (byte l at) (byte l (at + 1)) (byte l (at + 2)) (byte l (at + 3)) at
 
--- the number, if it ends the line
-unfoldable pub last : List ℕ → Number → Last
-last l (Read p next) = cond (eqb next (length l)) (Is p) Not
-last l Nothing = Not
+-- that number, if the line ends with it
+unfoldable pub last : List ℕ → Number → Number
+last l (Read p next) = cond (eqb next (length l)) (Read p next) Nothing
+last l Nothing = Nothing
 
--- a command of that number
-abbrev pub of : (ℕ → Command) → Last → Command
-of command (Is p) = command p
-of command Not = Malformed
+-- a command of one number, by its letter: n, s or r
+unfoldable pub ofOne : ℕ → Number → Command
+ofOne letter (Read p next) =
+    cond (eqb letter 110) (SetUp p)
+    (cond (eqb letter 115) (Step p)
+    (cond (eqb letter 114) (BeginRelease p)
+    Malformed))
+ofOne letter Nothing = Malformed
 
--- a command of two numbers, parted by one space
-unfoldable pub ofTwo : (ℕ → ℕ → Command) → List ℕ → Number → Command
-ofTwo command l (Read p next) = cond (eqb (byte l next) 32) (of (command p) (last l (numberAt l (next + 1)))) Malformed
-ofTwo command l Nothing = Malformed
+-- a command of two numbers: a space stands after the first, and then the second
+unfoldable pub ofTwo : ℕ → Number → Command
+ofTwo p (Read r next) = BeginAcquisition p r
+ofTwo p Nothing = Malformed
 
--- by the letters n, a, s and r
-unfoldable pub byLetter : ℕ → List ℕ → Command
-byLetter letter l =
-    cond (eqb letter 110) (of SetUp (last l (numberAt l 2)))
-    (cond (eqb letter 97) (ofTwo BeginAcquisition l (numberAt l 2))
-    (cond (eqb letter 115) (of Step (last l (numberAt l 2)))
-    (cond (eqb letter 114) (of BeginRelease (last l (numberAt l 2)))
-    Malformed)))
+unfoldable pub parted : List ℕ → Number → Command
+parted l (Read p next) = cond (eqb (byte l next) 32) (ofTwo p (last l (numberAt l (next + 1)))) Malformed
+parted l Nothing = Malformed
+
+-- by the letter, with the byte after it: a has two numbers
+unfoldable pub byLetter : ℕ → ℕ → List ℕ → Command
+byLetter letter space l = cond (eqb space 32) (cond (eqb letter 97) (parted l (numberAt l 2)) (ofOne letter (last l (numberAt l 2)))) Malformed
 
 unfoldable pub commandOf : List ℕ → Command
-commandOf l = cond (ltb 16 (length l)) Malformed (cond (not (eqb (byte l 1) 32)) Malformed (byLetter (byte l 0) l))
+commandOf l = cond (ltb 16 (length l)) Malformed (byLetter (byte l 0) (byte l 1) l)

@@ -1,2 +1,3 @@
 pub mod Command
+pub mod Inside
 pub mod Text

@@ -1,14 +1,12 @@
+-- `is_digit` makes the two comparisons of `digit`.
+-- Assumes nothing.
 use Rattle.laws.proofs.Said.{said}
 use Rattle.lines.proofs.is_digit.Statement.{statement}
 use Rattle.lines.proofs.is_digit.Tie as tie
-use Rattle.lines.proofs.is_digit.Reads as reads
-use Rattle.lines.proofs.is_digit.Lts as lts
 
--- src/lib.rt:39:9
 returns : tie.Need-returns
 returns c = search said
 
--- src/lib.rt:35:1
 returns-2 : tie.Need-returns-2
 returns-2 c = search said
 
