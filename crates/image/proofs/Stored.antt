@@ -97,6 +97,13 @@ kept log Left no·e = refl
 kept log Finished no·e = refl
 kept log (Taken k) no·e = refl
 
+-- the three parts of a step one after the other
+pub three-stored : (b : List ℕ) (m : Module) (l : Looked) {b₁ b₂ : List ℕ} → b₁ ≡ puts b (m .at) (privateBytes (l .stepped .me)) → b₂ ≡ puts b₁ (l .at) (sharedBytes (l .stepped .its)) →
+    set b₂ (m .frame .trailer) (l .stepped .lock) ≡ partsPut b m l
+unfolding partsPut
+three-stored b m l first second =
+    ap (λ (x : List ℕ). set x (m .frame .trailer) (l .stepped .lock)) (second ∙ ap (λ (x : List ℕ). puts x (l .at) (sharedBytes (l .stepped .its))) first)
+
 -- a step
 module _ (b : List ℕ) (m : Module) (l : Looked) (looks : Looks b m l) (bytes : (i : ℕ) → byte b i < 256) where
   -- the parts in the table

@@ -3,7 +3,7 @@
 use native.Mathlib.Omega.{arith}
 use borrow.Author.Needs.{needs}
 use lib.ListN.{length-set}
-use Rattle.image.specs.Inside.{partsPut}
+use Rattle.image.proofs.Stored.{three-stored}
 use Rattle.image.proofs.put_parts.Statement.{statement}
 use Rattle.image.proofs.put_parts.Tie as tie
 
@@ -20,8 +20,9 @@ same-length : tie.Need-same-length
 same-length c = simp length-set (omega arith)
 
 returns : tie.Need-returns
-unfolding partsPut
-returns c = cc
+returns c =
+    let start = c .before .before .before .before .before .before .before .before .before .before .args in
+    three-stored _ (start .m) (start .l) (c .before .before .before .before .before .before .put-private .ensures) (c .before .before .put-shared .ensures)
 
 pub put-parts-spec : {M : Type 1} → statement M
 put-parts-spec =
