@@ -1,8 +1,8 @@
 -- A call on a sound image is the machine's call on the table that it shows. Assumes nothing.
 use Prim.Native.Nat.{ℕ, _≤_}
 use mathlib.Core.Path.{_≡_, refl, sym, _∙_, ap, subst, subst₂}
-use mathlib.Core.Bool.{Bool, true, false, cond, not, _&&_}
-use mathlib.Core.List.{List, [], _∷_}
+use mathlib.Core.Bool.{Bool, true, false, cond, not}
+use mathlib.Core.List.{List, _∷_}
 use lib.Dec.{leb}
 use lib.ListN.{length}
 use native.Mathlib.Omega.{arith}
@@ -13,13 +13,13 @@ use Rattle.link.specs.Count.{next, size}
 use Rattle.stage.proofs.Refusing.{Unrefused, refused-or, refusing-map, is-within}
 use Rattle.stage.proofs.SoundCalls.{Soundly, looks-known, accepted-sound, table-tests}
 use Rattle.stage.proofs.Update.{upd-all}
-use Rattle.stage.specs.Calls.{Call, setUp, beginAcquisition, beginRelease, step, takeLog, within, capacity, refusals, refusing, answered, after, called}
+use Rattle.stage.specs.Calls.{Call, setUp, beginAcquisition, beginRelease, step, takeLog, within, refusals, refusing, answered, after, called}
 use Rattle.stage.specs.Rows.{looksAt}
 use Rattle.stage.specs.Table.{Table, upd, idle, untouched, freshTable, begunAcquisition, begunRelease, afterStep, logTaken}
 use Rattle.stage.specs.declared.Reply.{Reply}
 use Rattle.stage.specs.declared.Reply.the-variants.{Refused, Answered}
 use Rattle.layout.proofs.ReadBack.{Held, length-put, read-put}
-use Rattle.layout.specs.Layout.{lengthFor, modules, read, put}
+use Rattle.layout.specs.Layout.{lengthFor, read, put}
 use Rattle.soundness.specs.SoundImage.{sound}
 use Rattle.image.proofs.Sound as Sound
 use Rattle.image.proofs.Sound.{put-sound}

@@ -1,21 +1,20 @@
 -- The promises of specs/Claims.antt. Assumes nothing.
 use Prim.Native.Nat.{ℕ, _≤_, _<_}
-use mathlib.Core.Path.{_≡_, refl, sym, _∙_, ap, subst⁻¹, subst₂, subst₃}
-use mathlib.Core.Bool.{true, false, cond}
+use mathlib.Core.Path.{_≡_, refl, sym, ap, subst⁻¹, subst₂, subst₃}
+use mathlib.Core.Bool.{true, cond}
 use mathlib.Core.List.{List, [], _∷_}
-use native.Mathlib.Omega.{arith}
 use borrow.Author.Tests.{le-leb}
 use lib.Dec.{leb, lit<}
 use lib.ListN.{length}
 use Rattle.link.specs.Count.{next, size}
 use Rattle.stage.proofs.SoundCalls.{fresh-sound}
-use Rattle.stage.specs.Calls.{Call, setUp, within, refusals, refusing, after}
-use Rattle.stage.specs.Table.{Table, idle, untouched, freshTable}
+use Rattle.stage.specs.Calls.{Call, setUp, refusals, refusing, after}
+use Rattle.stage.specs.Table.{idle, untouched, freshTable}
 use Rattle.layout.proofs.ReadBack.{Held}
 use Rattle.layout.specs.Layout.{lengthFor, recordAt, privateAt, sharedAt, read}
 use Rattle.soundness.specs.SoundImage.{sound}
 use Rattle.image.proofs.Sound as Sound
-use Rattle.image.specs.Call.{looks, fits, refused, reply, image}
+use Rattle.image.specs.Call.{refused, image}
 use Rattle.line.proofs.Consequences.{modular-corollaries}
 use Rattle.line.proofs.Modular.{modular}
 use Rattle.line.specs.Corollaries.{Corollaries}

@@ -1,7 +1,7 @@
 -- What a caller reads out of an exported call's number is what the call says: the packing loses nothing.
 -- Assumes nothing.
 use mathlib.Core.Path.{_≡_, refl, sym, _∙_, ap₂, subst⁻¹}
-use mathlib.Core.Bool.{Bool, true, false, not}
+use mathlib.Core.Bool.{Bool, true, false}
 use mathlib.Core.List.{List}
 use Prim.Native.Nat.{ℕ, _+_, _-_, _*_, _/_, _%_, _≤_}
 use native.Mathlib.Nat.{add-sub-cancel-left, div-eq-of-lt-le, mod-add-div, mod-eq-of-lt}
@@ -10,7 +10,7 @@ use borrow.Author.Tests.{le-leb, lt-leb, not-false}
 use lib.Dec.{leb}
 use lib.ListN.{length}
 use Rattle.link.specs.Count.{next, size}
-use Rattle.stage.specs.Answers.{numberOf, answerOf}
+use Rattle.stage.specs.Answers.{answerOf}
 use Rattle.stage.specs.Calls.{Call, setUp, beginAcquisition, beginRelease, step, takeLog, refusals, answered}
 use Rattle.stage.specs.Rows.{looksAt}
 use Rattle.stage.specs.Table.{stepOf}

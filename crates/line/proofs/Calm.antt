@@ -1,7 +1,7 @@
 -- Whoever steps, what a seeker has read and tested stays true: each link is unchanged or its count is higher, and what is still as it was read belongs to
 -- a record in the line, whose priority nobody lowers. Assumes nothing.
 use Prim.Native.Nat.{ℕ, _≤_, _<_}
-use mathlib.Core.Path.{_≡_, refl, sym, _∙_, ap, subst}
+use mathlib.Core.Path.{_≡_, sym, _∙_, ap, subst}
 use mathlib.Core.List.{List}
 use mathlib.Core.Logic.{_⊎_, inl, inr, ⊎-elim}
 use native.Mathlib.Omega.{arith}
@@ -11,7 +11,7 @@ use Rattle.stage.specs.declared.Private.{Private}
 use Rattle.stage.specs.declared.Shared.{Shared}
 use Rattle.line.specs.PlainLine.{Place}
 use Rattle.line.proofs.Invariant.{Read, Above, Below, Knows, Seeks, Urgent, Inv}
-use Rattle.line.proofs.Facts.{not-nil, member-seeks}
+use Rattle.line.proofs.Facts.{member-seeks}
 use Rattle.line.proofs.Places.{In, All, behind, all-map, chain-behind}
 
 abbrev pub Onward : Link → Link → Type 0

@@ -6,19 +6,18 @@ use mathlib.Core.Logic.{_≢_, _⊎_, inl, inr, ⊎-elim}
 use lib.Dec.{T, lit≤}
 use native.Mathlib.Nat.{le-refl}
 use Rattle.laws.proofs.Cases.{equal}
-use Rattle.laws.proofs.Only.{among, disjoint}
-use Rattle.link.specs.Operations.{OPEN}
-use Rattle.stage.proofs.Update.{upd-same, upd-other, upd-all, upd-both}
+use Rattle.laws.proofs.Only.{among}
+use Rattle.stage.proofs.Update.{upd-same, upd-other, upd-all}
 use Rattle.stage.specs.Rows.{goes, withOwn, withPriority, withLocked, row17, row18}
 use Rattle.stage.specs.Table.{upd}
 use Rattle.stage.specs.declared.Private.{Private}
 use Rattle.stage.specs.declared.Shared.{Shared}
 use Rattle.line.specs.History.{Course, stepping}
 use Rattle.line.specs.PlainLine.{Place}
-use Rattle.line.proofs.After.{Good, After}
+use Rattle.line.proofs.After.{After}
 use Rattle.line.proofs.Calm.{urgent-on}
 use Rattle.line.proofs.Facts.{stands-at, holder-at, member, head-in}
-use Rattle.line.proofs.Invariant.{Stands, Holder, Inv, outs, holders, members}
+use Rattle.line.proofs.Invariant.{Stands, Holder, Inv, members}
 use Rattle.line.proofs.Others.{other-calm, other-seeks}
 use Rattle.line.proofs.Places.{In, Distinct, head, behind, chain-map}
 use Rattle.line.proofs.Tables.{out-stands, held-stands, first-holder}

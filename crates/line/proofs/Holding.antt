@@ -6,15 +6,14 @@ use mathlib.Core.List.{List, [], _∷_, _++_, append-nil}
 use mathlib.Core.Logic.{_≢_, _⊎_, inl, inr, ⊎-elim}
 use lib.Dec.{T, eqb}
 use Rattle.laws.proofs.Cases.{choose, test}
-use Rattle.laws.proofs.Only.{among, disjoint, included, either}
+use Rattle.laws.proofs.Only.{among, disjoint, either}
 use Rattle.stage.specs.Table.{Table}
-use Rattle.stage.specs.declared.Private.{Private}
 use Rattle.line.specs.Demand3.{Leads, leftOff, Found, Inside, Names, Holds}
 use Rattle.line.specs.History.{Course}
 use Rattle.line.specs.PlainLine.{Place, modules}
-use Rattle.line.proofs.Facts.{kinds, stands-at, holder-at, member, not-nil, head-in}
+use Rattle.line.proofs.Facts.{kinds, stands-at, holder-at, member, not-nil}
 use Rattle.line.proofs.Ideal.{Kept}
-use Rattle.line.proofs.Invariant.{Inv, outs, holders, leavers, members}
+use Rattle.line.proofs.Invariant.{Inv, outs, leavers, members}
 use Rattle.line.proofs.Logs.{pending, insides}
 use Rattle.line.proofs.Places.{In, head, Chain}
 

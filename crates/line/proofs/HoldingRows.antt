@@ -1,14 +1,13 @@
 -- The rows of a module in the line, and of a release, that leave the line and its holder as they are. Assumes nothing.
 use Prim.Native.Nat.{ℕ, suc, _≤_}
 use mathlib.Core.Path.{_≡_, refl, sym, _∙_, ap, subst, subst₂}
-use mathlib.Core.Bool.{Bool, true, false}
-use mathlib.Core.List.{List, []}
+use mathlib.Core.List.{List}
 use mathlib.Core.Logic.{_≢_, inl, inr}
-use lib.Dec.{T, lit≤, eqb}
+use lib.Dec.{lit≤, eqb}
 use borrow.Author.Tests.{eqb-true, eqb-false}
 use native.Mathlib.Omega.{arith}
 use Rattle.laws.proofs.Cases.{choose}
-use Rattle.link.specs.Operations.{OPEN, changed}
+use Rattle.link.specs.Operations.{changed}
 use Rattle.stage.proofs.Update.{upd-kept}
 use Rattle.stage.specs.Rows.{goes, row3, row11, row12, row15, row16}
 use Rattle.stage.specs.Table.{upd}
@@ -18,9 +17,9 @@ use Rattle.line.specs.History.{Course, stepping}
 use Rattle.line.specs.PlainLine.{Place}
 use Rattle.line.proofs.After.{Good, After}
 use Rattle.line.proofs.Facts.{stands-at, holder-at, seeks-not, head-in, empty, freed-first}
-use Rattle.line.proofs.Invariant.{Stands, Holder, Inv}
+use Rattle.line.proofs.Invariant.{Inv}
 use Rattle.line.proofs.Kept.{kept}
-use Rattle.line.proofs.Places.{In, head}
+use Rattle.line.proofs.Places.{head}
 use Rattle.line.proofs.Tables.{out-stands, out-holder, held-stands, first-holder}
 
 module _ (o : Course) {private : ℕ → Private} {sh : ℕ → Shared} {lock : ℕ} {h : ℕ} (i : Inv (o .given) private sh lock (o .line) h) (p : ℕ) (some : p ≢ 0) where

@@ -1,9 +1,8 @@
 -- The machine whose counts never wrap keeps the invariant over every history. Assumes nothing.
-use Prim.Native.Nat.{ℕ, suc, _≤_}
+use Prim.Native.Nat.{ℕ, suc}
 use mathlib.Core.Path.{_≡_, refl, sym, _∙_, ap, subst, subst⁻¹}
 use mathlib.Core.Bool.{Bool}
 use mathlib.Core.List.{List, [], _∷_, _++_, append-nil}
-use mathlib.Core.Logic.{_≢_}
 use borrow.Author.Tests.{eqb-true, not-false}
 use lib.Dec.{eqb}
 use native.Mathlib.Omega.{arith}
@@ -11,12 +10,12 @@ use Rattle.laws.proofs.Only.{among}
 use Rattle.stage.proofs.Refusing.{Unrefused, refused-or, is-within}
 use Rattle.stage.specs.Calls.{Call, setUp, beginAcquisition, beginRelease, step, takeLog, refusals, answered, after, called}
 use Rattle.stage.specs.Rows.{goes, withOwn}
-use Rattle.stage.specs.Table.{Table, upd, idle, untouched, freshTable, begunAcquisition, begunRelease, stepOf, afterStep, logTaken}
+use Rattle.stage.specs.Table.{Table, upd, freshTable, begunAcquisition, begunRelease, stepOf, afterStep, logTaken}
 use Rattle.stage.specs.declared.Event.{Event}
 use Rattle.stage.specs.declared.Event.the-variants.{Done, Waiting, Admitted, Joined, Left, Finished, Taken}
 use Rattle.stage.specs.declared.Private.{Private}
 use Rattle.stage.specs.declared.Reply.{Reply}
-use Rattle.stage.specs.declared.Reply.the-variants.{Refused, Answered}
+use Rattle.stage.specs.declared.Reply.the-variants.{Answered}
 use Rattle.stage.specs.declared.Shared.{Shared}
 use Rattle.line.specs.History.{Course, start, stepping, accepted, heard, course, takes, machine, state, transcript, taken}
 use Rattle.line.specs.PlainLine.{Place}

@@ -8,7 +8,6 @@ use mathlib.Core.Logic.{_⊎_, _≢_}
 use Rattle.laws.proofs.Only.{only, among}
 use Rattle.link.specs.Operations.{OPEN}
 use Rattle.link.specs.declared.Link.{Link}
-use Rattle.stage.specs.Table.{Table}
 use Rattle.stage.specs.declared.Private.{Private}
 use Rattle.stage.specs.declared.Shared.{Shared}
 use Rattle.line.specs.PlainLine.{Place}

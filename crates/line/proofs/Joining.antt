@@ -1,11 +1,9 @@
 -- Stage 9: a swap that succeeds puts the module into the line, at the place of the plain line. Assumes nothing.
 use Prim.Native.Nat.{ℕ, suc, _≤_, _<_}
 use mathlib.Core.Path.{_≡_, refl, sym, _∙_, ap, subst, subst⁻¹}
-use mathlib.Core.Bool.{Bool, true, false, _&&_}
 use mathlib.Core.List.{List, [], _∷_, cons-ne-nil}
 use mathlib.Core.Logic.{_≢_, _⊎_, inl, inr, ⊎-elim}
-use lib.Dec.{T, lit≤, eqb}
-use borrow.Author.Tests.{eqb-true}
+use lib.Dec.{lit≤}
 use native.Mathlib.Nat.{le-refl}
 use native.Mathlib.Omega.{arith}
 use Rattle.laws.proofs.Cases.{choose}
@@ -13,7 +11,6 @@ use Rattle.laws.proofs.Only.{included}
 use Rattle.link.proofs.Comparing.{same-true}
 use Rattle.link.specs.Operations.{OPEN, same, changed, swapped}
 use Rattle.link.specs.declared.Link.{Link}
-use Rattle.link.specs.declared.Swapped.{Swapped}
 use Rattle.stage.proofs.Update.{upd-same, upd-other, upd-all}
 use Rattle.stage.specs.Rows.{goes, withLink, after9, row9}
 use Rattle.stage.specs.Table.{upd}
@@ -21,12 +18,12 @@ use Rattle.stage.specs.declared.Private.{Private}
 use Rattle.stage.specs.declared.Shared.{Shared}
 use Rattle.line.specs.History.{Course, stepping}
 use Rattle.line.specs.PlainLine.{Place, join, stand}
-use Rattle.line.proofs.After.{Good, After}
+use Rattle.line.proofs.After.{After}
 use Rattle.line.proofs.Calm.{Onward, urgent-on}
 use Rattle.line.proofs.Facts.{stands-at, seeks-at, holder-at, not-nil}
 use Rattle.line.proofs.Invariant.{Stands, Seeks, Holder, Urgent, Inv, leavers}
 use Rattle.line.proofs.Others.{other-calm, other-seeks}
-use Rattle.line.proofs.Places.{In, head, behind, in-stand, stand-in, all-stand, distinct-stand, sorted-stand, joined}
+use Rattle.line.proofs.Places.{In, in-stand, stand-in, all-stand, distinct-stand, sorted-stand, joined}
 use Rattle.line.proofs.SeekingRows.{row9-fails}
 
 -- the module p, at stage 9, whose prev's link is still as it was read

@@ -5,8 +5,7 @@ use mathlib.Core.List.{List}
 use mathlib.Core.Logic.{_≢_, inl}
 use native.Mathlib.Nat.{le-refl, le-of-eq}
 use Rattle.link.specs.Operations.{OPEN}
-use Rattle.link.specs.declared.Link.{Link}
-use Rattle.stage.proofs.Update.{upd-same, upd-other, upd-all, upd-both}
+use Rattle.stage.proofs.Update.{upd-other, upd-all, upd-both}
 use Rattle.stage.specs.Table.{upd}
 use Rattle.stage.specs.declared.Private.{Private}
 use Rattle.stage.specs.declared.Shared.{Shared}

@@ -2,7 +2,7 @@
 use Prim.Native.Nat.{ℕ, suc}
 use mathlib.Core.Path.{_≡_, refl, sym, _∙_, ap, subst⁻¹}
 use mathlib.Core.List.{List, [], _∷_}
-use mathlib.Core.Logic.{_≢_, inl, inr, ⊎-elim}
+use mathlib.Core.Logic.{_≢_, inr, ⊎-elim}
 use lib.Dec.{lit≤}
 use native.Mathlib.Omega.{arith}
 use Rattle.link.specs.Operations.{OPEN, CLOSED, changed}

@@ -9,7 +9,6 @@ use borrow.Author.Tests.{eqb-true}
 use Rattle.laws.proofs.Cases.{choose, test}
 use Rattle.laws.proofs.Only.{among, included}
 use Rattle.link.specs.Operations.{same, swapped, CLOSED}
-use Rattle.link.specs.declared.Swapped.{Swapped}
 use Rattle.link.specs.declared.Swapped.the-variants as swap
 use Rattle.stage.proofs.Update.{upd-same, upd-other, upd-all, upd-kept}
 use Rattle.stage.specs.Rows.{find, rows, noStep, looksAt, stepped, row1, row2, row3, row4, row5, row6, row7, row8, after9, row9, row10, row11, row12, row14, row15, row16, row17, row18}

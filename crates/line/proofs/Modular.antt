@@ -2,7 +2,7 @@
 -- with its counts reduced. Assumes nothing.
 use Prim.Native.Nat.{ℕ, suc, _+_, _%_, _≤_, _<_}
 use mathlib.Core.Path.{_≡_, refl, sym, _∙_, ap, subst, subst⁻¹, subst₃, fun-ext, transport⁻¹}
-use mathlib.Core.Bool.{Bool, true, false, cond}
+use mathlib.Core.Bool.{Bool, cond}
 use mathlib.Core.List.{List, [], _∷_}
 use mathlib.Core.Logic.{_⊎_, inl, inr, ⊎-elim}
 use lib.Dec.{T}
@@ -15,19 +15,17 @@ use Rattle.link.proofs.Comparing.{same-true, same-self, same-not}
 use Rattle.link.specs.Count.{next}
 use Rattle.link.specs.Operations.{same}
 use Rattle.link.specs.declared.Link.{Link}
-use Rattle.stage.proofs.Refusing.{Unrefused, refused-or}
+use Rattle.stage.proofs.Refusing.{refused-or}
 use Rattle.stage.specs.Calls.{Call, setUp, beginAcquisition, beginRelease, step, takeLog, refusals, after, called}
 use Rattle.stage.specs.Table.{Table, idle, freshTable}
-use Rattle.stage.specs.declared.Private.{Private}
 use Rattle.stage.specs.declared.Reply.{Reply}
-use Rattle.stage.specs.declared.Shared.{Shared}
 use Rattle.line.specs.Demand3.{changed, reads, changesSince, InTime, Premise, Holds, Demand3}
 use Rattle.line.specs.History as History
 use Rattle.line.specs.History.{Course, takes, machine, state, transcript}
-use Rattle.line.proofs.Counted.{OneOn, readers, Still, Ongoing, links-on, still, Counts, counts-on}
+use Rattle.line.proofs.Counted.{OneOn, readers, Ongoing, links-on, still, Counts, counts-on}
 use Rattle.line.proofs.Facts.{seeks-at}
 use Rattle.line.proofs.Holding.{kept-holds}
-use Rattle.line.proofs.Ideal.{Kept, ideal-kept}
+use Rattle.line.proofs.Ideal.{ideal-kept}
 use Rattle.line.proofs.Invariant.{Read}
 use Rattle.line.proofs.OneFound.{found-wraps}
 use Rattle.line.proofs.Wrap.{wrapLink}

@@ -1,24 +1,19 @@
 -- The rows in which a module that is away from the line stays away from it. Assumes nothing.
-use Prim.Native.Nat.{ℕ, _≤_, _<_}
-use mathlib.Core.Path.{_≡_, refl, sym, _∙_, ap, subst, subst⁻¹}
-use mathlib.Core.Bool.{Bool, true, false, cond}
-use mathlib.Core.List.{List, [], _∷_}
-use mathlib.Core.Logic.{_≢_, _⊎_, inl, inr}
-use lib.Dec.{T, lit≤}
-use native.Mathlib.Omega.{arith}
+use Prim.Native.Nat.{ℕ, _≤_}
+use mathlib.Core.Path.{_≡_, refl, sym, _∙_, subst, subst⁻¹}
+use mathlib.Core.List.{List}
+use mathlib.Core.Logic.{_≢_, inl}
+use lib.Dec.{T}
 use Rattle.laws.proofs.Only.{among}
-use Rattle.link.specs.Operations.{OPEN, CLOSED, changed}
-use Rattle.link.specs.declared.Link.{Link}
-use Rattle.stage.proofs.Update.{upd-same, upd-kept}
-use Rattle.stage.specs.Rows.{goes, withPrev, withW, withLink, withLocked}
+use Rattle.stage.proofs.Update.{upd-kept}
 use Rattle.stage.specs.Table.{upd}
 use Rattle.stage.specs.declared.Private.{Private}
 use Rattle.stage.specs.declared.Shared.{Shared}
 use Rattle.line.specs.PlainLine.{Place}
-use Rattle.line.proofs.Calm.{Onward, knows-on}
-use Rattle.line.proofs.Facts.{stands-at, seeks-at, holder-at}
-use Rattle.line.proofs.Invariant.{Stands, Seeks, Holder, Inv, outs}
-use Rattle.line.proofs.Kept.{kept, own-calm}
+use Rattle.line.proofs.Calm.{Onward}
+use Rattle.line.proofs.Facts.{holder-at}
+use Rattle.line.proofs.Invariant.{Seeks, Inv, outs}
+use Rattle.line.proofs.Kept.{kept}
 use Rattle.line.proofs.Places.{In}
 use Rattle.line.proofs.Tables.{out-stands, out-holder}
 

@@ -1,21 +1,17 @@
 -- The rows by which a module seeks its place: each keeps it away from the line. Assumes nothing.
-use Prim.Native.Nat.{ℕ, suc, _≤_, _<_}
-use mathlib.Core.Path.{_≡_, refl, sym, _∙_, ap, subst, subst⁻¹}
-use mathlib.Core.Bool.{Bool, true, false, cond}
-use mathlib.Core.List.{List}
-use mathlib.Core.Logic.{_≢_, _⊎_, inl, inr}
+use Prim.Native.Nat.{ℕ, suc, _≤_}
+use mathlib.Core.Path.{_≡_, refl, subst, subst⁻¹}
+use mathlib.Core.Logic.{_≢_, inl, inr}
 use lib.Dec.{T, lit≤, eqb, ltb}
 use borrow.Author.Tests.{eqb-true, eqb-false, ltb-true, ltb-false}
 use native.Mathlib.Omega.{arith}
 use Rattle.laws.proofs.Cases.{choose}
 use Rattle.laws.proofs.Only.{among}
-use Rattle.link.specs.Operations.{OPEN, CLOSED, changed}
-use Rattle.link.specs.declared.Link.{Link}
+use Rattle.link.specs.Operations.{CLOSED, changed}
 use Rattle.link.specs.declared.Swapped.the-variants.{Failed}
 use Rattle.stage.proofs.Update.{upd-kept}
-use Rattle.stage.specs.Rows.{Row, goes, withPrev, withW, withLink, withLocked, row1, row2, row4, row5, row6, row7, row8, after9, row10}
+use Rattle.stage.specs.Rows.{goes, withPrev, withW, row1, row4, row5, row6, row7, row8, after9, row10}
 use Rattle.stage.specs.Table.{upd}
-use Rattle.stage.specs.declared.Event.the-variants.{Done}
 use Rattle.stage.specs.declared.Private.{Private}
 use Rattle.stage.specs.declared.Shared.{Shared}
 use Rattle.line.specs.History.{Course, stepping}

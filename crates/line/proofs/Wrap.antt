@@ -1,7 +1,7 @@
 -- A step on a table whose counts are reduced modulo m is the step on the table itself, reduced: row by row, where a swap compares alike. Assumes nothing.
 use Prim.Native.Nat.{ℕ, suc, _%_, _≤_}
 use mathlib.Core.Path.{_≡_, refl, sym, _∙_, ap}
-use mathlib.Core.Bool.{Bool, true, false, cond}
+use mathlib.Core.Bool.{cond}
 use lib.Dec.{eqb, ltb}
 use native.Mathlib.Nat.{mod-add-mod}
 use native.Mathlib.Numerals.{add-one}
@@ -11,7 +11,7 @@ use Rattle.link.specs.Operations.{CLOSED, OPEN, changed, same, swapped}
 use Rattle.link.specs.declared.Link.{Link}
 use Rattle.link.specs.declared.Swapped.{Swapped}
 use Rattle.link.specs.declared.Swapped.the-variants.{Done, Failed}
-use Rattle.stage.specs.Rows.{leaves, goes, withPrev, withW, withLink, find, rows, noStep, row1, row2, row3, row4, row5, row6, row7, row8, after9, row9, row10, row11, row12, row14, row15, row16, row17, row18}
+use Rattle.stage.specs.Rows.{leaves, goes, withW, withLink, find, rows, noStep, row1, row2, row3, row4, row5, row6, row7, row8, after9, row9, row10, row11, row12, row14, row15, row16, row17, row18}
 use Rattle.stage.specs.declared.Event.{Event}
 use Rattle.stage.specs.declared.Event.the-variants as event
 use Rattle.stage.specs.declared.Private.{Private}

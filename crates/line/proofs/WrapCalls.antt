@@ -1,8 +1,8 @@
 -- A call on a table whose counts are reduced modulo m is the call on the table itself, reduced. Assumes nothing.
-use Prim.Native.Nat.{ℕ, suc, _%_, _≤_}
+use Prim.Native.Nat.{ℕ, suc, _≤_}
 use mathlib.Core.Path.{_≡_, refl, sym, _∙_, ap, subst⁻¹}
 use mathlib.Core.Bool.{Bool, not, _&&_, _||_}
-use mathlib.Core.List.{List, _∷_, []}
+use mathlib.Core.List.{_∷_, []}
 use lib.Dec.{eqb, leb}
 use lib.ListN.{length}
 use native.Mathlib.Nat.{zero-mod}
@@ -13,11 +13,8 @@ use Rattle.stage.proofs.Update.{upd-map}
 use Rattle.stage.specs.Calls.{Call, setUp, beginAcquisition, beginRelease, step, takeLog, within, capacity, admits, refusals, refusing, answered, after, called}
 use Rattle.stage.specs.Rows.{find, rows, goes, withOwn, withPriority, looksAt, stepped}
 use Rattle.stage.specs.Table.{Table, upd, idle, untouched, freshTable, begunAcquisition, begunRelease, stepOf, logged, afterStep, logTaken}
-use Rattle.stage.specs.declared.Answer.{Answer}
-use Rattle.stage.specs.declared.Private.{Private}
 use Rattle.stage.specs.declared.Reply.{Reply}
 use Rattle.stage.specs.declared.Reply.the-variants.{Refused, Answered}
-use Rattle.stage.specs.declared.Shared.{Shared}
 use Rattle.stage.specs.declared.Stepped.{Stepped}
 use Rattle.stage.proofs.ByStage.{by-stage}
 use Rattle.line.proofs.Wrap.{wrapPrivate, wrapShared, wrapStepped, Alike, row-wraps}
