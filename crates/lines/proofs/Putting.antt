@@ -114,3 +114,9 @@ line-unwritten word rest out at h = no-room (lineText word rest) out at (lt-leb 
 pub line-written : {word rest out out₁ out₂ out₃ : List ℕ} {at r₁ r₂ r₃ : ℕ} → Put word out at r₁ out₁ → Put rest out₁ r₁ r₂ out₂ → Put (10 ∷ []) out₂ r₂ r₃ out₃ → Writes (lineText word rest) out at r₃ out₃
 unfolding lineText
 line-written p q s = put-writes (put-then (put-then p q refl) s refl)
+
+-- what a short text leaves of the room
+pub room-left : {text out out′ : List ℕ} {at r : ℕ} (most left : ℕ) → length text ≤ most → at + (most + left) ≤ length out → length out′ ≡ length out → Writes text out at r out′ → r + left ≤ length out′
+room-left {text} {out} {out′} {at} {r} most left short h same writes =
+    let put : Put text out at r out′ = writes-put (omega arith) same writes in
+    omega (arith, put .after)

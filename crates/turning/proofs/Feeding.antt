@@ -2,21 +2,22 @@
 use mathlib.Core.Path.{_≡_, refl, sym, _∙_, ap}
 use mathlib.Core.Bool.{true, false}
 use mathlib.Core.List.{List, [], _∷_, _++_}
-use Prim.Native.Nat.{ℕ, _+_, _-_, _≤_, _<_}
+use Prim.Native.Nat.{ℕ, _+_, _-_, _*_, _≤_, _<_}
 use native.Mathlib.Nat.{sub-zero}
 use native.Mathlib.Numerals.{add-one}
 use native.Mathlib.Omega.{arith}
 use borrow.Author.Tests.{eq-eqb, ne-eqb, lt-ltb, le-ltb}
 use lib.Dec.{eqb, ltb}
-use lib.ListN.{length, take, set}
-use lib.Seq.{length-take-le, take-suc-set}
+use lib.ListN.{length, take, getD, set}
+use lib.Seq.{length-take-le, take-all, take-suc-set}
 use Rattle.stage.specs.declared.Reply.{Reply}
 use Rattle.laws.proofs.Said.{taken, passed}
 use Rattle.lines.specs.Inside.{Put}
 use Rattle.lines.specs.Text.{replyText, Writes}
 use Rattle.lines.proofs.Texts.{reply-short}
+use Rattle.lines.proofs.Entries.{take-one-more}
 use Rattle.lines.proofs.Putting.{writes-put, front}
-use Rattle.turning.specs.Inside.{Session, grown, ended, fed, standing}
+use Rattle.turning.specs.Inside.{Session, grown, ended, fed, fedAll, standing}
 use Rattle.turning.specs.Turn.{answerTo, imageAfter, Turns}
 
 -- sessions are the same part by part
@@ -67,3 +68,54 @@ module _ (b line : List ℕ) (count : ℕ) (out : List ℕ) (at x : ℕ) where
           (sessions refl (passed _ _ _ _ (le-ltb (length (take count line)) 17 (omega (arith, length-take-le count line (omega arith)))) refl) refl),
           (h, omega arith),
         )
+
+-- one input after another
+pub fed-append : (s : Session) (l more : List ℕ) → fedAll s (l ++ more) ≡ fedAll (fedAll s l) more
+unfolding fedAll
+fed-append s [] more = refl
+fed-append s (x ∷ l) more = fed-append (fed s x) l more
+
+-- one byte more of an input
+pub fed-more : (s : Session) (l : List ℕ) (i : ℕ) → i < length l → fedAll s (take (i + 1) l) ≡ fed (fedAll s (take i l)) (getD l i 0)
+unfolding fedAll
+fed-more s l i h = ap (fedAll s) (take-one-more l i h) ∙ fed-append s (take i l) (getD l i 0 ∷ [])
+
+-- the first i bytes of a block are answered
+pub record Answered (image₀ line₀ : List ℕ) (count : ℕ) (out₀ block image line : List ℕ) (kept : ℕ) (out : List ℕ) (at i : ℕ) : Type 0 where
+  pub passed-by : i ≤ length block
+  pub long : length line ≡ 17
+  pub few : kept ≤ 17
+  pub short : at ≤ 6 * i
+  pub same-image : length image ≡ length image₀
+  pub same-line : length line ≡ length line₀
+  pub same-out : length out ≡ length out₀
+  pub stands : standing image line kept out at ≡ fedAll (standing image₀ line₀ count out₀ 0) (take i block)
+
+pub begun : (image line : List ℕ) (count : ℕ) (out block : List ℕ) → length line ≡ 17 → count ≤ 17 → Answered image line count out block image line count out 0 0
+unfolding fedAll
+begun image line count out block long few = record { passed-by = omega arith; long = long; few = few; short = omega arith; same-image = refl; same-line = refl; same-out = refl; stands = refl }
+
+module _ (image₀ line₀ : List ℕ) (count : ℕ) (out₀ block image line : List ℕ) (kept : ℕ) (out : List ℕ) (at i : ℕ) (answered : Answered image₀ line₀ count out₀ block image line kept out at i) where
+  pub one-more : {image′ line′ out′ : List ℕ} {kept′ at′ : ℕ} →
+      i < length block → length image′ ≡ length image → length line′ ≡ length line → length out′ ≡ length out →
+      (standing image′ line′ kept′ out′ at′ ≡ fed (standing image line kept out at) (getD block i 0)) × ((kept′ ≤ 17) × (at′ ≤ at + 6)) →
+      Answered image₀ line₀ count out₀ block image′ line′ kept′ out′ at′ (i + 1)
+  one-more h same-image same-line same-out feeds =
+      record {
+        passed-by = omega arith;
+        long = same-line ∙ answered .long;
+        few = feeds .1 .0;
+        short = omega (arith, answered .short, feeds .1 .1);
+        same-image = same-image ∙ answered .same-image;
+        same-line = same-line ∙ answered .same-line;
+        same-out = same-out ∙ answered .same-out;
+        stands = feeds .0 ∙ ap (λ (s : Session). fed s (getD block i 0)) (answered .stands) ∙ sym (fed-more (standing image₀ line₀ count out₀ 0) block i h);
+      }
+
+  pub all-answered : length block ≤ i → 6 * length block ≤ length out₀ →
+      (standing image line kept out at ≡ fedAll (standing image₀ line₀ count out₀ 0) block) × ((kept ≤ 17) × (at ≤ length out))
+  all-answered h room =
+      (
+        answered .stands ∙ ap (fedAll (standing image₀ line₀ count out₀ 0)) (take-all i block h),
+        (answered .few, omega (arith, answered .passed-by, answered .short, answered .same-out)),
+      )

@@ -11,8 +11,10 @@ ghost use mathlib.Core.Path.{_≡_};
 ghost use mathlib.Core.List.{[], _++_};
 ghost use Prim.Native.Nat.{_+_, _*_, _≤_};
 ghost use lib.ListN.{length, take};
-ghost use Rattle.turning.specs.Inside.{Session, fed, fedAll, finished, standing, takenOf};
-ghost use Rattle.turning.specs.Program.{endText};
+ghost use Rattle.lines.specs.Inside.{Put};
+ghost use Rattle.lines.specs.Text.{logText};
+ghost use Rattle.turning.specs.Inside.{Session, fed, fedAll, finished, standing, takenBy, takenOf};
+ghost use Rattle.turning.specs.Program.{heldLog, endText};
 ghost use Rattle.turning.specs.Turn.{Turns};
 
 // How many bytes are kept of the line that has begun, and the place after the text that is written.
@@ -56,4 +58,117 @@ fn feed(image: &mut [u8], line: &mut [u8], count: usize, x: u8, out: &mut [u8], 
         };
     }
     Place { count, at }
+}
+
+// Takes a block of input. The text of its answers is put at the front of the buffer.
+fn answer(image: &mut [u8], line: &mut [u8], count: usize, block: &[u8], out: &mut [u8]) -> Place
+    requires { ⌜ (length (now line) ≡ 17) × (count ≤ 17) × (6 * length (now block) ≤ length (now out)) ⌝ }
+    ensures { λ r. ⌜ standing (now (image .exit)) (now (line .exit)) (r .count) (now (out .exit)) (r .at) ≡ fedAll (standing (now (image .entry)) (now (line .entry)) count (now (out .entry)) 0) (now (block .entry)) ⌝ }
+    ensures { λ r. ⌜ (r .count ≤ 17) × (r .at ≤ length (now (out .exit))) ⌝ }
+{
+    let mut kept = count;
+    let mut at = 0;
+    let mut i = 0;
+    while i < block.len() {
+        let place = feed(image, line, kept, block[i], out, at);
+        kept = place.count;
+        at = place.at;
+        i += 1;
+    }
+    Place { count: kept, at }
+}
+
+// How many entries were taken.
+fn taken_by(event: Event) -> usize
+    ensures { λ r. ⌜ r ≡ takenBy event ⌝ }
+{
+    match event {
+        Event::Taken(length) => length as usize,
+        _ => 0,
+    }
+}
+
+fn taken_of(reply: Reply) -> usize
+    ensures { λ r. ⌜ r ≡ takenOf reply ⌝ }
+{
+    match reply {
+        Reply::Refused(_) => 0,
+        Reply::Answered(a) => {
+            let event = a.event;
+            taken_by(event)
+        }
+    }
+}
+
+// Takes the log and puts its line.
+fn put_held(image: &mut [u8], out: &mut [u8], at: usize) -> usize
+    requires { ⌜ at + 1028 ≤ length (now out) ⌝ }
+    ensures { λ r. ⌜ Put (logText (heldLog (now (image .entry)))) (now (out .entry)) at r (now (out .exit)) ⌝ }
+{
+    let mut log = [0u8; 256];
+    let held = taken_of(image::take_log(image, &mut log));
+    lines::put_log(out, at, &log[0..held])
+}
+
+// Puts the lines of the end of input.
+fn put_end(image: &mut [u8], out: &mut [u8], at: usize) -> usize
+    requires { ⌜ at + 1037 ≤ length (now out) ⌝ }
+    ensures { λ r. ⌜ Put (endText (now (image .entry))) (now (out .entry)) at r (now (out .exit)) ⌝ }
+{
+    let log = lines::put_lock(out, at, image::lock_word(image));
+    put_held(image, out, log)
+}
+
+// Takes the end of input.
+fn finish(image: &mut [u8], line: &[u8], count: usize, out: &mut [u8]) -> usize
+    requires { ⌜ (count ≤ length (now line)) × (1043 ≤ length (now out)) ⌝ }
+    ensures { λ r. ⌜ Put (finished (standing (now (image .entry)) (now (line .entry)) count (now (out .entry)) 0)) (now (out .entry)) 0 r (now (out .exit)) ⌝ }
+{
+    if count == 0 {
+        return put_end(image, out, 0);
+    }
+    let reply = turn(image, &line[0..count]);
+    let end = lines::put_reply(out, 0, reply);
+    put_end(image, out, end)
+}
+
+// Takes all of the input, a block at a time, and writes the answers. A proved loop has to end, and nothing says that the input does: so it
+// counts its turns down, from a number that no run uses up.
+fn answer_input(image: &mut [u8], line: &mut [u8], out: &mut [u8]) -> usize
+    requires { ⌜ (length (now line) ≡ 17) × (393216 ≤ length (now out)) ⌝ }
+    ensures { λ r. ⌜ r ≤ 17 ⌝ }
+{
+    let mut block = io::large_buffer();
+    let mut count = 0;
+    let mut turns = u64::MAX;
+    while 0 < turns {
+        let got = libc::read(STDIN_FILENO, &mut block);
+        let n = io::count(got, &block);
+        if n == 0 {
+            return count;
+        }
+        let place = answer(image, line, count, &block[..n], out);
+        let end = place.at;
+        io::write_all(STDOUT_FILENO, &out[..end]);
+        count = place.count;
+        turns -= 1;
+    }
+    count
+}
+
+// Room for the text of a block: at most six bytes for each of its own, were they all newlines.
+fn text_buffer() -> [u8; 393216]
+    ensures { λ r. ⌜ 393216 ≡ length r ⌝ }
+{
+    [0u8; 393216]
+}
+
+// The program.
+pub fn run() {
+    let mut image = [0u8; 1292];
+    let mut line = [0u8; 17];
+    let mut out = text_buffer();
+    let count = answer_input(&mut image, &mut line, &mut out);
+    let end = finish(&mut image, &line, count, &mut out);
+    io::write_all(STDOUT_FILENO, &out[..end]);
 }
