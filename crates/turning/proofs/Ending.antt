@@ -52,8 +52,7 @@ module _ (b lent : List ℕ) (room : length lent ≡ capacity) where
       × ((take (length (heldLog b)) (buffer b lent) ≡ heldLog b) × (length (heldLog b) ≤ capacity))
   unfolding reply buffer refused refusals refusing answered heldLog
   both true is =
-      let fits = le-ltb (length lent) (length (read b .log)) (few is) in
-      (
+      let fits = le-ltb (length lent) (length (read b .log)) (few is) in (
         simp (is, fits),
         (simp (is, fits) (take-append-seam (read b .log) (drop (length (read b .log)) lent)), simp is (omega (arith, few is, room))),
       )

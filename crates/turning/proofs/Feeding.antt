@@ -35,13 +35,12 @@ module _ (b line : List ℕ) (count : ℕ) (out : List ℕ) (at x : ℕ) where
   unfolding fed ended standing
   line-ended {b′} {out′} {r} {at′} e turns h same writes =
       let l-is : take (count - 0) line ≡ take count line = ap (λ (k : ℕ). take k line) (sub-zero count) in
-      let put : Put (replyText r) out at at′ out′ = writes-put (omega (arith, reply-short r)) same writes in
-      (
+      let put : Put (replyText r) out at at′ out′ = writes-put (omega (arith, reply-short r)) same writes in (
         taken _ _ _ _ (eq-eqb x 10 e)
-        (sessions
-        (turns .leaves ∙ ap (λ (k : List ℕ). imageAfter k b) l-is)
-        refl
-        (front put ∙ ap (λ (s : Reply). take at out ++ replyText s) (turns .says ∙ ap (λ (k : List ℕ). answerTo k b) l-is))),
+            (sessions
+            (turns .leaves ∙ ap (λ (k : List ℕ). imageAfter k b) l-is)
+            refl
+            (front put ∙ ap (λ (s : Reply). take at out ++ replyText s) (turns .says ∙ ap (λ (k : List ℕ). answerTo k b) l-is))),
         (omega arith, omega (arith, reply-short r, put .after)),
       )
 
@@ -49,25 +48,23 @@ module _ (b line : List ℕ) (count : ℕ) (out : List ℕ) (at x : ℕ) where
     -- it is kept
     pub byte-kept : count < 17 → (standing b (set line count x) (count + 1) out at ≡ fed (standing b line count out at) x) × ((count + 1 ≤ 17) × (at ≤ at + 6))
     unfolding fed grown standing
-    byte-kept h =
-        (
-          passed _ _ _ _ (ne-eqb x 10 other)
+    byte-kept h = (
+      passed _ _ _ _ (ne-eqb x 10 other)
           (sessions refl
           (taken _ _ _ _ (lt-ltb (length (take count line)) 17 (omega (arith, length-take-le count line (omega arith))))
           (ap (λ (k : ℕ). take k (set line count x)) (add-one count) ∙ take-suc-set line count x (omega arith)))
           refl),
-          (omega arith, omega arith),
-        )
+      (omega arith, omega arith),
+    )
 
     -- there are 17 already
     pub byte-dropped : count ≤ 17 → 17 ≤ count → (standing b line count out at ≡ fed (standing b line count out at) x) × ((count ≤ 17) × (at ≤ at + 6))
     unfolding fed grown standing
-    byte-dropped h full =
-        (
-          passed _ _ _ _ (ne-eqb x 10 other)
+    byte-dropped h full = (
+      passed _ _ _ _ (ne-eqb x 10 other)
           (sessions refl (passed _ _ _ _ (le-ltb (length (take count line)) 17 (omega (arith, length-take-le count line (omega arith)))) refl) refl),
-          (h, omega arith),
-        )
+      (h, omega arith),
+    )
 
 -- one input after another
 pub fed-append : (s : Session) (l more : List ℕ) → fedAll s (l ++ more) ≡ fedAll (fedAll s l) more
@@ -114,8 +111,7 @@ module _ (image₀ line₀ : List ℕ) (count : ℕ) (out₀ block image line : 
 
   pub all-answered : length block ≤ i → 6 * length block ≤ length out₀ →
       (standing image line kept out at ≡ fedAll (standing image₀ line₀ count out₀ 0) block) × ((kept ≤ 17) × (at ≤ length out))
-  all-answered h room =
-      (
-        answered .stands ∙ ap (fedAll (standing image₀ line₀ count out₀ 0)) (take-all i block h),
-        (answered .few, omega (arith, answered .passed-by, answered .short, answered .same-out)),
-      )
+  all-answered h room = (
+    answered .stands ∙ ap (fedAll (standing image₀ line₀ count out₀ 0)) (take-all i block h),
+    (answered .few, omega (arith, answered .passed-by, answered .short, answered .same-out)),
+  )

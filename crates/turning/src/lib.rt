@@ -23,6 +23,12 @@ struct Place {
     at: usize,
 }
 
+// How many bytes are kept of the line that has begun, and whether the input is at its end.
+struct Round {
+    count: usize,
+    is_last: bool,
+}
+
 // What one line does on an image.
 pub fn turn(image: &mut [u8], line: &[u8]) -> Reply
     ensures { λ r. ⌜ Turns (now (line .entry)) (now (image .entry)) r (now (image .exit)) ⌝ }
@@ -132,9 +138,37 @@ fn finish(image: &mut [u8], line: &[u8], count: usize, out: &mut [u8]) -> usize
     put_end(image, out, end)
 }
 
-// Takes all of the input, a block at a time, and writes the answers. A proved loop has to end, and nothing says that the input does: so it
-// counts its turns down, from a number that no run uses up.
-fn answer_input(image: &mut [u8], line: &mut [u8], out: &mut [u8]) -> usize
+// Reads a block of input, if there is any more, and writes its answers. Where reading fails the input is at its end.
+fn answer_some(
+    image: &mut [u8],
+    line: &mut [u8],
+    count: usize,
+    block: &mut [u8],
+    out: &mut [u8],
+) -> Round
+    requires { ⌜ (length (now line) ≡ 17) × (count ≤ 17) × (6 * length (now block) ≤ length (now out)) ⌝ }
+    ensures { λ r. ⌜ r .count ≤ 17 ⌝ }
+{
+    let got = libc::read(STDIN_FILENO, block);
+    let n = io::count(got, block);
+    if n == 0 {
+        return Round {
+            count,
+            is_last: true,
+        };
+    }
+    let place = answer(image, line, count, &block[0..n], out);
+    let end = place.at;
+    io::write_all(STDOUT_FILENO, &out[0..end]);
+    Round {
+        count: place.count,
+        is_last: false,
+    }
+}
+
+// Takes all of the input. A proved loop has to end, and nothing says that the input does: so it counts its turns down, from a number
+// that no run uses up.
+fn answer_all(image: &mut [u8], line: &mut [u8], out: &mut [u8]) -> usize
     requires { ⌜ (length (now line) ≡ 17) × (393216 ≤ length (now out)) ⌝ }
     ensures { λ r. ⌜ r ≤ 17 ⌝ }
 {
@@ -142,15 +176,11 @@ fn answer_input(image: &mut [u8], line: &mut [u8], out: &mut [u8]) -> usize
     let mut count = 0;
     let mut turns = u64::MAX;
     while 0 < turns {
-        let got = libc::read(STDIN_FILENO, &mut block);
-        let n = io::count(got, &block);
-        if n == 0 {
+        let round = answer_some(image, line, count, &mut block, out);
+        count = round.count;
+        if round.is_last {
             return count;
         }
-        let place = answer(image, line, count, &block[..n], out);
-        let end = place.at;
-        io::write_all(STDOUT_FILENO, &out[..end]);
-        count = place.count;
         turns -= 1;
     }
     count
@@ -168,7 +198,7 @@ pub fn run() {
     let mut image = [0u8; 1292];
     let mut line = [0u8; 17];
     let mut out = text_buffer();
-    let count = answer_input(&mut image, &mut line, &mut out);
+    let count = answer_all(&mut image, &mut line, &mut out);
     let end = finish(&mut image, &line, count, &mut out);
-    io::write_all(STDOUT_FILENO, &out[..end]);
+    io::write_all(STDOUT_FILENO, &out[0..end]);
 }
