@@ -2,7 +2,7 @@
 use mathlib.Core.Path.{_≡_, refl, sym, _∙_, ap}
 use mathlib.Core.Bool.{Bool, true, false, not}
 use mathlib.Core.List.{List, [], _∷_, _++_, append-assoc, append-nil}
-use Prim.Native.Nat.{ℕ, _+_, _-_, _≤_, _<_}
+use Prim.Native.Nat.{ℕ, _+_, _-_, _*_, _≤_, _<_}
 use native.Mathlib.Numerals.{add-one}
 use native.Mathlib.Omega.{arith}
 use borrow.Author.Tests.{leb-true, leb-false}
@@ -10,7 +10,8 @@ use lib.Dec.{leb}
 use lib.ListN.{length, take, drop, getD, take-append-drop, length-append}
 use lib.Seq.{take-suc}
 use Rattle.laws.proofs.Said.{said-no, said-yes}
-use Rattle.lines.specs.Text.{decimal, entriesText}
+use Rattle.lines.specs.Text.{decimal, entriesText, logText}
+use Rattle.lines.proofs.Texts.{decimal-short, line-length}
 
 module _ (said : Bool) (e n at : ℕ) (said-is : said ≡ leb e (n - at - 4)) (four : 4 ≤ n - at) where
   pub had-room : not said ≡ false → at + (e + 4) ≤ n
@@ -48,3 +49,13 @@ module _ (l : List ℕ) (i : ℕ) (h : i < length l) where
         ap length (ap entriesText (sym (take-append-drop (i + 1) l)) ∙ appended (take (i + 1) l) (drop (i + 1) l)),
         length-append (entriesText (take (i + 1) l)) (entriesText (drop (i + 1) l)),
       )
+
+-- how long they are at most
+pub entries-short : (l : List ℕ) → length (entriesText l) ≤ 4 * length l
+unfolding entriesText
+entries-short [] = omega arith
+entries-short (x ∷ l) = omega (arith, entries-short l, decimal-short x, length-append (32 ∷ decimal x) (entriesText l))
+
+pub log-short : (l : List ℕ) → length (logText l) ≤ 4 * length l + 4
+unfolding logText
+log-short l = omega (arith, entries-short l, line-length (108 ∷ 111 ∷ 103 ∷ []) (entriesText l))

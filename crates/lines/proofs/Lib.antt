@@ -1,3 +1,3 @@
-pub mod Decimal
 pub mod Entries
 pub mod Putting
+pub mod Texts

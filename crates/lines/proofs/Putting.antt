@@ -11,6 +11,7 @@ use lib.ListN.{length, take, drop, set, take-append-drop, length-append, length-
 use lib.Seq.{set-split, length-take-le, take-at, drop-append-add, drop-drop, append-snoc}
 use Rattle.lines.specs.Inside.{Put}
 use Rattle.lines.specs.Text.{lineText, fits, placeAfter, written, Writes}
+use Rattle.lines.proofs.Texts.{line-length}
 
 pub put-none : (out : List ℕ) (at : ℕ) → at ≤ length out → Put [] out at at out
 put-none out at h =
@@ -105,16 +106,17 @@ writes-put {text} {out} {at} {r} {out′} h same w =
       leaves = (simp yes at (w .leaves)) ∙ ap (λ (k : ℕ). take at out ++ text ++ drop k out) (sym after);
     }
 
-module _ (word rest out : List ℕ) (at : ℕ) where
-  pub line-length : length (lineText word rest) ≡ length word + length rest + 1
-  unfolding lineText
-  line-length = length-append (word ++ rest) (10 ∷ []) ∙ ap (λ (k : ℕ). k + 1) (length-append word rest)
-
-  -- a line that has no room
-  pub line-unwritten : length out < at + (length word + length rest + 1) → Writes (lineText word rest) out at at out
-  line-unwritten h = no-room (lineText word rest) out at (lt-leb (at + length (lineText word rest)) (length out) (omega (arith, line-length)))
+-- a line that has no room
+pub line-unwritten : (word rest out : List ℕ) (at : ℕ) → length out < at + (length word + length rest + 1) → Writes (lineText word rest) out at at out
+line-unwritten word rest out at h = no-room (lineText word rest) out at (lt-leb (at + length (lineText word rest)) (length out) (omega (arith, line-length word rest)))
 
 -- a line that was put part by part
 pub line-written : {word rest out out₁ out₂ out₃ : List ℕ} {at r₁ r₂ r₃ : ℕ} → Put word out at r₁ out₁ → Put rest out₁ r₁ r₂ out₂ → Put (10 ∷ []) out₂ r₂ r₃ out₃ → Writes (lineText word rest) out at r₃ out₃
 unfolding lineText
 line-written p q s = put-writes (put-then (put-then p q refl) s refl)
+
+-- what a short text leaves of the room
+pub room-left : {text out out′ : List ℕ} {at r : ℕ} (most left : ℕ) → length text ≤ most → at + (most + left) ≤ length out → length out′ ≡ length out → Writes text out at r out′ → r + left ≤ length out′
+room-left {text} {out} {out′} {at} {r} most left short h same writes =
+    let put : Put text out at r out′ = writes-put (omega arith) same writes in
+    omega (arith, put .after)

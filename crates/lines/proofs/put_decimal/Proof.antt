@@ -4,7 +4,7 @@ use mathlib.Core.Path.{ap}
 use native.Mathlib.Omega.{arith}
 use borrow.Author.Needs.{needs}
 use lib.ListN.{length, length-set}
-use Rattle.lines.proofs.Decimal.{one-digit, two-digits, three-digits}
+use Rattle.lines.proofs.Texts.{one-digit, two-digits, three-digits}
 use Rattle.lines.proofs.Putting.{put-one, put-two, put-three}
 use Rattle.lines.proofs.put_decimal.Statement.{statement}
 use Rattle.lines.proofs.put_decimal.Tie as tie
