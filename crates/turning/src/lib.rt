@@ -1,6 +1,6 @@
 // The program `turns`: lines of input, each answered by the one call that it asks for. 01, "The program `turns`".
 //
-// What it writes for its input is `Program.output`. `answer` and `finish` do that for an input that comes in blocks (proofs/Blocks.antt);
+// What it writes for its input is `Program.output`. `answer` takes a block of the input and `finish` its end;
 // around them `run` only reads and writes, of which no contract can speak.
 use libc::STDIN_FILENO;
 use libc::STDOUT_FILENO;
