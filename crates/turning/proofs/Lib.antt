@@ -1,3 +1,4 @@
+pub mod Blocks
 pub mod Ending
 pub mod Feeding
 pub mod Turning

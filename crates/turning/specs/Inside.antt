@@ -37,6 +37,14 @@ fedAll s (x ∷ input) = fedAll (fed s x) input
 unfoldable pub finished : Session → List ℕ
 finished s = s .text ++ textOf (lastLine (s .line)) (s .image)
 
+-- what is written for an input that comes in blocks: the text of each block, and after the last one the text of the end. So `run` goes about it.
+abbrev pub afresh : Session → Session
+afresh s = record { image = s .image; line = s .line; text = [] }
+
+unfoldable pub inBlocks : Session → List (List ℕ) → List ℕ
+inBlocks s [] = finished (afresh s)
+inBlocks s (block ∷ others) = fedAll (afresh s) block .text ++ inBlocks (fedAll (afresh s) block) others
+
 -- where the program stands, by what it has in its buffers: the first `count` bytes of one are the line's, the first `at` of another the text
 unfoldable pub standing : List ℕ → List ℕ → ℕ → List ℕ → ℕ → Session
 standing image line count out at = record { image = image; line = take count line; text = take at out }
