@@ -22,7 +22,7 @@ use Rattle.image.specs.declared.Module.{Module}
 use Rattle.image.specs.declared.Found.{Found}
 use Rattle.image.specs.declared.Found.the-variants as found
 use Rattle.image.specs.Call.{Does}
-use Rattle.image.specs.Inside.{Framed, IsModule, given, unfound, Finds, Looks}
+use Rattle.image.specs.Inside.{Framed, IsNumber, IsModule, given, unfound, Finds, Looks}
 use Rattle.image.proofs.Sound.{table}
 
 pub entries : (b : List ℕ) (f : Frame) → Framed b f → length (read b .log) ≡ f .held
@@ -45,12 +45,12 @@ module _ (b : List ℕ) (p : ℕ) (r : Found) (finds : Finds b p r) where
   pub was-refused : (k : ℕ) → r ≡ found.Refused k → given (unfound b p) ≡ some k
   was-refused k e = subst (Finds b p) e finds
 
-  pub was-found : (m : Module) → r ≡ found.Module m → IsModule b m
-  was-found m e = subst (Finds b p) e finds .0
+  pub was-found : (q : ℕ) → r ≡ found.Number q → IsNumber b q
+  was-found q e = subst (Finds b p) e finds .0
 
   -- what a call does for the module found it does for p
-  pub by-number : (call : ℕ → Call) (m : Module) {x : Reply} {b′ : List ℕ} → r ≡ found.Module m → Does (call (m .number)) b x b′ → Does (call p) b x b′
-  by-number call m {x} {b′} e does = subst (λ (q : ℕ). Does (call q) b x b′) (subst (Finds b p) e finds .1) does
+  pub by-number : (call : ℕ → Call) (q i : ℕ) {x : Reply} {b′ : List ℕ} → r ≡ found.Number q → i ≡ q → Does (call i) b x b′ → Does (call p) b x b′
+  by-number call q i {x} {b′} e same does = subst (λ (j : ℕ). Does (call j) b x b′) (same ∙ subst (Finds b p) e finds .1) does
 
 module _ (b : List ℕ) (m : Module) (is : IsModule b m) where
   -- the module that its step looks at

@@ -32,7 +32,10 @@ pub record Framed (b : List ℕ) (f : Frame) : Type 0 where
   pub most : modules b ≤ 64
   pub heldFits : held b ≤ capacity
 
--- a module of a sound image
+-- a module of a sound image, by its number, and with its private part
+abbrev pub IsNumber : List ℕ → ℕ → Type 0
+IsNumber b p = (sound b ≡ true) × (1 ≤ p) × (p ≤ modules b)
+
 pub record IsModule (b : List ℕ) (m : Module) : Type 0 where
   pub framed : Framed b (m .frame)
   pub least : 1 ≤ m .number
@@ -50,7 +53,7 @@ unfound b p = (not (sound b), 1) ∷ (not (within 1 (modules b) p), 2) ∷ []
 
 abbrev pub Finds : List ℕ → ℕ → Found → Type 0
 Finds b p (found.Refused k) = given (unfound b p) ≡ some k
-Finds b p (found.Module m) = IsModule b m × (m .number ≡ p)
+Finds b p (found.Number q) = IsNumber b q × (q ≡ p)
 
 -- a module's step, before it is stored
 pub record Looks (b : List ℕ) (m : Module) (l : Looked) : Type 0 where

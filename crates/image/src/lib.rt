@@ -25,7 +25,7 @@ ghost use Rattle.layout.proofs.Stores.{puts};
 ghost use Rattle.layout.proofs.Changes.{privateBytes, sharedBytes, lengthBytes};
 ghost use Rattle.soundness.specs.SoundImage.{sound};
 ghost use Rattle.image.specs.Call.{Does, buffer, lockWord};
-ghost use Rattle.image.specs.Inside.{Framed, IsModule, Finds, Looks, partsPut};
+ghost use Rattle.image.specs.Inside.{Framed, IsNumber, IsModule, Finds, Looks, partsPut};
 
 // Where the parts of a sound image lie: its n, the places of record 1, of the log and of the trailer, and how many entries are held.
 struct Frame {
@@ -44,11 +44,10 @@ struct Module {
     me: Private,
 }
 
-// What the search for a module comes to.
+// What the search for a module comes to: a refusal or the module, each by its number.
 enum Found {
-    // A refusal, by its number.
     Refused(u8),
-    Module(Module),
+    Number(u8),
 }
 
 // A step, before it is stored: the place of the record that it looks at, and what it leaves.
@@ -174,22 +173,29 @@ fn find(image: &[u8], p: u32) -> Found
     if !soundness::sound(image) {
         return Found::Refused(1);
     }
-    let frame = frame_of(image);
-    let n = frame.n;
+    let n = frame_of(image).n;
     if p < 1 {
         return Found::Refused(2);
     }
     if (n as u32) < p {
         return Found::Refused(2);
     }
-    let number = p as u8;
+    Found::Number(p as u8)
+}
+
+// The module of a number.
+fn module_of(image: &[u8], number: u8) -> Module
+    requires { ⌜ IsNumber (now image) number ⌝ }
+    ensures { λ r. ⌜ IsModule (now (image .entry)) r × (r .number ≡ number) ⌝ }
+{
+    let frame = frame_of(image);
     let at = place(frame.first, number);
-    Found::Module(Module {
+    Module {
         frame,
         number,
         at,
         me: private_at(image, at),
-    })
+    }
 }
 
 // A module's step, by value: its row on the one shared part that the row looks at.
@@ -450,7 +456,10 @@ pub fn begin_acquisition(image: &mut [u8], p: u32, priority: u32) -> Reply
     let found = find(image, p);
     match found {
         Found::Refused(k) => Reply::Refused(k),
-        Found::Module(m) => begin_acquisition_of(image, m, priority),
+        Found::Number(number) => {
+            let m = module_of(image, number);
+            begin_acquisition_of(image, m, priority)
+        }
     }
 }
 
@@ -461,7 +470,10 @@ pub fn begin_release(image: &mut [u8], p: u32) -> Reply
     let found = find(image, p);
     match found {
         Found::Refused(k) => Reply::Refused(k),
-        Found::Module(m) => begin_release_of(image, m),
+        Found::Number(number) => {
+            let m = module_of(image, number);
+            begin_release_of(image, m)
+        }
     }
 }
 
@@ -472,7 +484,10 @@ pub fn step(image: &mut [u8], p: u32) -> Reply
     let found = find(image, p);
     match found {
         Found::Refused(k) => Reply::Refused(k),
-        Found::Module(m) => step_of(image, m),
+        Found::Number(number) => {
+            let m = module_of(image, number);
+            step_of(image, m)
+        }
     }
 }
 

@@ -17,7 +17,8 @@ use Rattle.stage.specs.Sound.{at, each, soundLink, soundOwn, soundStage, soundP
 use Rattle.layout.specs.Layout.{byte, privateAt, sharedAt}
 use Rattle.soundness.specs.SoundImage.{soundZeros}
 use Rattle.soundness.specs.Parts.{recordRight, recordsRight, below, lanesRight, leastRow, greatestRow, leastTable, greatestTable, leastRows, greatestRows}
-use Rattle.soundness.proofs.Lists.{only-zero, sorted, every-more}
+use Rattle.soundness.proofs.Lists.{only-zero, sorted}
+use Rattle.soundness.proofs.Parts.{records-next}
 
 -- what is looked up in a table of which no entry is above k
 left : (a b : Bool) → T (a && b) → T a
@@ -105,10 +106,10 @@ by-remainder stage own prev pointer next = go (leb stage 18) refl
     go true e = let h : stage ≤ 18 = leb-true stage 18 e in let same : stage % 32 ≡ stage = omega arith in rw same
     go false e = rw e
 
-record-is : (b : List ℕ) (n place : ℕ) → ((i : ℕ) → byte b i < 256)
+by-tables : (b : List ℕ) (n place : ℕ) → ((i : ℕ) → byte b i < 256)
     → lanesRight b place leastTable (getD leastRows (byte b place % 32) 0) (greatestTable n) (getD greatestRows (byte b place % 32) 0) ≡ recordRight b n place
 unfolding recordRight soundPrivate privateAt
-record-is b n place small =
+by-tables b n place small =
     looked-up b place n (byte b place % 32) (omega arith)
     ∙ asked-is b place n (byte b place % 32) small
     ∙ rw (by-remainder (byte b place) (byte b (place + 1)) (byte b (place + 2)) (byte b (place + 3)) (byte b (place + 14)))
@@ -118,7 +119,5 @@ pub records-more : (b least greatest lows highs : List ℕ) (n first p stage low
     → least ≡ leastTable → greatest ≡ greatestTable n → lows ≡ leastRows → highs ≡ greatestRows
     → stage ≡ byte b (first + 16 * p) % 32 → low ≡ getD lows stage 0 → high ≡ getD highs stage 0
     → was ≡ recordsRight b n first p → now ≡ (was && lanesRight b (first + 16 * p) least low greatest high) → now ≡ recordsRight b n first (p + 1)
-unfolding recordsRight
 records-more b least greatest lows highs n first p stage low high was now small e₁ e₂ e₃ e₄ e₅ e₆ e₇ e w =
-    let next : suc p - 1 ≡ p = omega arith in
-    w ∙ every-more _ p was _ e (rw (next, e₁, e₂, e₆, e₇, e₃, e₄, e₅) (record-is b n (first + 16 * p) (λ i. small i .fits)))
+    w ∙ records-next b n first p was _ e (rw (e₁, e₂, e₆, e₇, e₃, e₄, e₅) (by-tables b n (first + 16 * p) (λ i. small i .fits)))

@@ -2,12 +2,17 @@
 //
 // An image is n records of 16 bytes, a log of 256 bytes and a trailer of 12, at the end of a buffer (01, "The image"). Which images are
 // sound is `SoundImage.sound`, 01's rules one by one, and `sound` answers exactly that, for any buffer whatever. Every call asks it
-// first, so it is written to be fast: one pass over the bytes and, compiled, no branch on what log and records hold.
+// first, so it is written to be fast: one pass over the bytes and, compiled, no branch on what the log holds nor, in a table of 4 modules
+// or more, on what the records hold.
 //
-// A record is looked at in 16 lanes, a byte in each. A byte's place and the record's stage give it a least and a greatest, which two
+// In a smaller table the records are looked at rule by rule (`sound_few`). In a larger one (`sound_many`) a record is looked at in 16
+// lanes, a byte in each. A byte's place and the record's stage give it a least and a greatest, which two
 // small tables have. `off` keeps, for each place, how far any byte there lay outside of its two, and is asked once, at the end. The
 // compiler holds 16 lanes in one register only if it can do the same in all of them: so the rules are rows of numbers, looked up by the
 // stage, and are not written out byte by byte. That these rows are the rules is shown in proofs/Tables.antt.
+use link::Link;
+use stage::Private;
+use stage::Shared;
 ghost use mathlib.Core.Path.{_≡_};
 ghost use mathlib.Core.Bool.{_&&_};
 ghost use Prim.Native.Nat.{_+_, _-_, _*_, _<_, _≤_, max};
@@ -16,7 +21,7 @@ ghost use Rattle.stage.specs.Calls.{within};
 ghost use Rattle.stage.specs.Sound.{each};
 ghost use Rattle.layout.specs.Layout as Layout;
 ghost use Rattle.soundness.specs.SoundImage as SoundImage;
-ghost use Rattle.soundness.specs.Parts.{trailerRight, logRight, leastTable, greatestTable, leastRows, greatestRows, lanesRight, contentRight};
+ghost use Rattle.soundness.specs.Parts.{trailerRight, logRight, recordRight, recordsRight, leastTable, greatestTable, leastRows, greatestRows, lanesRight, contentRight};
 
 // A byte as a wider number.
 fn wide(x: u8) -> usize
@@ -186,18 +191,15 @@ fn farther(
     off
 }
 
-// Whether log and records are sound, in an image of n modules that holds so many log entries.
-fn sound_content(image: &[u8], n: usize, held: usize) -> bool
-    requires { ⌜ (16 * n + 268 ≤ length (now image)) × (n ≤ 64) × (held ≤ 256) ⌝ }
-    ensures { λ r. ⌜ r ≡ contentRight (now (image .entry)) n held ⌝ }
+// Whether the first n records from a place on are sound, all in 16 lanes.
+fn sound_many(image: &[u8], first: usize, n: usize) -> bool
+    requires { ⌜ (first + 16 * n ≤ length (now image)) × (n ≤ 64) ⌝ }
+    ensures { λ r. ⌜ r ≡ recordsRight (now (image .entry)) n first n ⌝ }
 {
-    // The tables are made before the log is looked at, so that they have reached memory when the records need them.
     let least = least();
     let greatest = greatest(n as u8);
     let lows = least_rows();
     let highs = greatest_rows();
-    let log = sound_log(image, n as u8, held);
-    let first = image.len() - (16 * n + 268);
     let mut off = [0; 16];
     for p in 0..n {
         let at = first + 16 * p;
@@ -213,7 +215,63 @@ fn sound_content(image: &[u8], n: usize, held: usize) -> bool
             wide(highs[stage]),
         );
     }
-    log & all_within(0, 0, &off)
+    all_within(0, 0, &off)
+}
+
+// Whether the record at a place is sound, rule by rule. The counts may be any, so they are not read.
+fn sound_record(image: &[u8], at: usize, n: u8) -> bool
+    requires { ⌜ at + 16 ≤ length (now image) ⌝ }
+    ensures { λ r. ⌜ r ≡ recordRight (now (image .entry)) n at ⌝ }
+{
+    let me = Private {
+        stage: image[at],
+        own: image[at + 1],
+        prev: image[at + 2],
+        w: Link {
+            pointer: image[at + 3],
+            mark: image[at + 4],
+            count: 0,
+        },
+        s: image[at + 14],
+    };
+    let its = Shared {
+        link: Link {
+            pointer: image[at + 8],
+            mark: image[at + 9],
+            count: 0,
+        },
+        priority: image[at + 12],
+        locked: image[at + 13],
+    };
+    (image[at + 5] == 0)
+        & (image[at + 15] == 0)
+        & stage::sound_private(n, me)
+        & stage::sound_shared(n, its)
+}
+
+// Whether the first n records from a place on are sound, one after the other. For a few that takes less time than the tables do.
+fn sound_few(image: &[u8], first: usize, n: usize) -> bool
+    requires { ⌜ (first + 16 * n ≤ length (now image)) × (n ≤ 64) ⌝ }
+    ensures { λ r. ⌜ r ≡ recordsRight (now (image .entry)) n first n ⌝ }
+{
+    let mut ok = true;
+    for p in 0..n {
+        ok = ok & sound_record(image, first + 16 * p, n as u8);
+    }
+    ok
+}
+
+// Whether log and records are sound, in an image of n modules that holds so many log entries.
+fn sound_content(image: &[u8], n: usize, held: usize) -> bool
+    requires { ⌜ (16 * n + 268 ≤ length (now image)) × (n ≤ 64) × (held ≤ 256) ⌝ }
+    ensures { λ r. ⌜ r ≡ contentRight (now (image .entry)) n held ⌝ }
+{
+    let log = sound_log(image, n as u8, held);
+    let first = image.len() - (16 * n + 268);
+    if n < 4 {
+        return log & sound_few(image, first, n);
+    }
+    log & sound_many(image, first, n)
 }
 
 // Whether the image is sound.

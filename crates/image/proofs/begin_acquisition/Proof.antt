@@ -17,8 +17,11 @@ enum-known-found c = search needs
 enum-known-found-2 : tie.Need-enum-known-found-2
 enum-known-found-2 c = search needs
 
+module-of-requires : tie.Need-module-of-requires
+module-of-requires c κs = was-found _ _ _ (c .before .before .before .before .find .ensures) _ (c .before .before .found2 .given .1)
+
 begin-acquisition-of-requires : tie.Need-begin-acquisition-of-requires
-begin-acquisition-of-requires c κs = was-found _ _ _ (c .before .before .before .before .find .ensures) _ (c .before .before .found2 .given .1)
+begin-acquisition-of-requires c κs = search needs
 
 same-length : tie.Need-same-length
 same-length c = search needs
@@ -31,8 +34,9 @@ same-length-2 c = search needs
 
 returns-2 : tie.Need-returns-2
 returns-2 c =
-    let start = c .before .before .before .before .before .before .before .before .before .before in
-    by-number _ _ _ (c .before .before .before .before .before .before .before .find .ensures) (λ q. Calls.beginAcquisition q (start .args .priority)) _ (c .before .before .before .before .before .found2 .given .1) (c .before .before .begin-acquisition-of .ensures)
+    let start = c .before .before .before .before .before .before .before .before .before .before .before .before in
+    by-number _ _ _ (c .before .before .before .before .before .before .before .before .before .find .ensures) (λ q. Calls.beginAcquisition q (start .args .priority)) _ _ (c .before .before .before .before .before .before .before .found2 .given .1) (c .before .before .before .before .module-of .ensures .1)
+    (c .before .before .begin-acquisition-of .ensures)
 
 pub begin-acquisition-spec : {M : Type 1} → statement M
 begin-acquisition-spec =
@@ -41,6 +45,7 @@ begin-acquisition-spec =
     find-requires
     enum-known-found
     enum-known-found-2
+    module-of-requires
     begin-acquisition-of-requires
     same-length
     returns

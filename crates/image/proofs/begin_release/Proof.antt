@@ -17,8 +17,11 @@ enum-known-found c = search needs
 enum-known-found-2 : tie.Need-enum-known-found-2
 enum-known-found-2 c = search needs
 
+module-of-requires : tie.Need-module-of-requires
+module-of-requires c κs = was-found _ _ _ (c .before .before .before .before .find .ensures) _ (c .before .before .found2 .given .1)
+
 begin-release-of-requires : tie.Need-begin-release-of-requires
-begin-release-of-requires c κs = was-found _ _ _ (c .before .before .before .before .find .ensures) _ (c .before .before .found2 .given .1)
+begin-release-of-requires c κs = search needs
 
 same-length : tie.Need-same-length
 same-length c = search needs
@@ -31,7 +34,8 @@ same-length-2 c = search needs
 
 returns-2 : tie.Need-returns-2
 returns-2 c =
-    by-number _ _ _ (c .before .before .before .before .before .before .before .find .ensures) Calls.beginRelease _ (c .before .before .before .before .before .found2 .given .1) (c .before .before .begin-release-of .ensures)
+    by-number _ _ _ (c .before .before .before .before .before .before .before .before .before .find .ensures) Calls.beginRelease _ _ (c .before .before .before .before .before .before .before .found2 .given .1) (c .before .before .before .before .module-of .ensures .1)
+    (c .before .before .begin-release-of .ensures)
 
 pub begin-release-spec : {M : Type 1} → statement M
 begin-release-spec =
@@ -40,6 +44,7 @@ begin-release-spec =
     find-requires
     enum-known-found
     enum-known-found-2
+    module-of-requires
     begin-release-of-requires
     same-length
     returns

@@ -1,12 +1,10 @@
--- `find` refuses an unsound image, then a number that is no module's; past both it has a module of a sound image.
+-- `find` refuses an unsound image, then a number that is no module's; past both it has a module's number.
 -- Assumes nothing.
-use mathlib.Core.Path.{refl}
 use native.Mathlib.Omega.{arith}
 use borrow.Author.Needs.{needs}
 use denote.Ref.{now}
 use Rattle.laws.proofs.Said.{said}
 use Rattle.layout.specs.Layout.{modules}
-use Rattle.image.proofs.Modules.{is-module}
 use Rattle.image.proofs.Refusals.{too-low, too-high, unsound, no-module}
 use Rattle.image.proofs.find.Statement.{statement}
 use Rattle.image.proofs.find.Tie as tie
@@ -31,18 +29,11 @@ returns-3 c =
     let start = c .before .before .before .before .before .before .args in
     no-module _ _ (search said) (too-high 1 (modules (now (start .image))) (start .p) (omega arith))
 
-cast-number : tie.Need-cast-number
-cast-number c = search needs
-
-place-requires : tie.Need-place-requires
-place-requires c κs = search needs
-
-private-at-requires : tie.Need-private-at-requires
-private-at-requires c κs = search needs
+cast-t8 : tie.Need-cast-t8
+cast-t8 c = search needs
 
 returns-4 : tie.Need-returns-4
-returns-4 c =
-    (is-module _ _ _ _ _ (c .before .before .before .before .frame-of .ensures) (omega arith) (omega arith) (c .before .place .ensures) (c .private-at .ensures), refl)
+returns-4 c = search needs
 
 pub find-spec : {M : Type 1} → statement M
 find-spec =
@@ -54,7 +45,5 @@ find-spec =
     returns-2
     cast-if3
     returns-3
-    cast-number
-    place-requires
-    private-at-requires
+    cast-t8
     returns-4)

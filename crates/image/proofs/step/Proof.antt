@@ -3,8 +3,8 @@
 use borrow.Author.Needs.{needs}
 use Rattle.stage.specs.Calls
 use Rattle.image.proofs.Modules.{was-refused, was-found, by-number}
-use Rattle.image.proofs.Refusals.{not-found}
 use Rattle.image.proofs.Named.{step-refused}
+use Rattle.image.proofs.Refusals.{not-found}
 use Rattle.image.proofs.step.Statement.{statement}
 use Rattle.image.proofs.step.Tie as tie
 
@@ -17,8 +17,11 @@ enum-known-found c = search needs
 enum-known-found-2 : tie.Need-enum-known-found-2
 enum-known-found-2 c = search needs
 
+module-of-requires : tie.Need-module-of-requires
+module-of-requires c κs = was-found _ _ _ (c .before .before .before .before .find .ensures) _ (c .before .before .found2 .given .1)
+
 step-of-requires : tie.Need-step-of-requires
-step-of-requires c κs = was-found _ _ _ (c .before .before .before .before .find .ensures) _ (c .before .before .found2 .given .1)
+step-of-requires c κs = search needs
 
 same-length : tie.Need-same-length
 same-length c = search needs
@@ -31,7 +34,8 @@ same-length-2 c = search needs
 
 returns-2 : tie.Need-returns-2
 returns-2 c =
-    by-number _ _ _ (c .before .before .before .before .before .before .before .find .ensures) Calls.step _ (c .before .before .before .before .before .found2 .given .1) (c .before .before .step-of .ensures)
+    by-number _ _ _ (c .before .before .before .before .before .before .before .before .before .find .ensures) Calls.step _ _ (c .before .before .before .before .before .before .before .found2 .given .1) (c .before .before .before .before .module-of .ensures .1)
+    (c .before .before .step-of .ensures)
 
 pub step-spec : {M : Type 1} → statement M
 step-spec =
@@ -40,6 +44,7 @@ step-spec =
     find-requires
     enum-known-found
     enum-known-found-2
+    module-of-requires
     step-of-requires
     same-length
     returns
