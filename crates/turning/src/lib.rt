@@ -8,12 +8,11 @@ use lines::Command;
 use stage::Event;
 use stage::Reply;
 ghost use mathlib.Core.Path.{_≡_};
-ghost use mathlib.Core.List.{[], _++_};
 ghost use Prim.Native.Nat.{_+_, _*_, _≤_};
-ghost use lib.ListN.{length, take};
+ghost use lib.ListN.{length};
 ghost use Rattle.lines.specs.Inside.{Put};
 ghost use Rattle.lines.specs.Text.{logText};
-ghost use Rattle.turning.specs.Inside.{Session, fed, fedAll, finished, standing, takenBy, takenOf};
+ghost use Rattle.turning.specs.Inside.{fed, fedAll, finished, standing, takenBy, takenOf};
 ghost use Rattle.turning.specs.Program.{heldLog, endText};
 ghost use Rattle.turning.specs.Turn.{Turns};
 
