@@ -83,7 +83,7 @@ fn answer(image: &mut [u8], line: &mut [u8], count: usize, block: &[u8], out: &m
     Place { count: kept, at }
 }
 
-// How many entries were taken.
+// How many entries of a log were taken, by what happened.
 fn taken_by(event: Event) -> usize
     ensures { λ r. ⌜ r ≡ takenBy event ⌝ }
 {
@@ -93,6 +93,7 @@ fn taken_by(event: Event) -> usize
     }
 }
 
+// The same, by what the call said.
 fn taken_of(reply: Reply) -> usize
     ensures { λ r. ⌜ r ≡ takenOf reply ⌝ }
 {
