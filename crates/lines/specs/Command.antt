@@ -50,11 +50,12 @@ ofOne letter (Read p next) =
     Malformed))
 ofOne letter Nothing = Malformed
 
--- a command of two numbers: a space stands after the first, and then the second
+-- a command of two numbers, the first of which is p
 unfoldable pub ofTwo : ℕ → Number → Command
 ofTwo p (Read r next) = BeginAcquisition p r
 ofTwo p Nothing = Malformed
 
+-- after the first number stands a space, and after it the second, with which the line ends
 unfoldable pub parted : List ℕ → Number → Command
 parted l (Read p next) = cond (eqb (byte l next) 32) (ofTwo p (last l (numberAt l (next + 1)))) Malformed
 parted l Nothing = Malformed
@@ -63,5 +64,6 @@ parted l Nothing = Malformed
 unfoldable pub byLetter : ℕ → ℕ → List ℕ → Command
 byLetter letter space l = cond (eqb space 32) (cond (eqb letter 97) (parted l (numberAt l 2)) (ofOne letter (last l (numberAt l 2)))) Malformed
 
+-- what a line asks for
 unfoldable pub commandOf : List ℕ → Command
 commandOf l = cond (ltb 16 (length l)) Malformed (byLetter (byte l 0) (byte l 1) l)

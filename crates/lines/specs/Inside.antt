@@ -1,4 +1,4 @@
--- What the private functions of this crate say of what they write. No public contract cites this file.
+-- What private functions, of this crate and of `turning`, say of what they write. No public contract cites this file.
 use Prim.Native.Nat.{ℕ, _+_, _≤_}
 use mathlib.Core.Path.{_≡_}
 use mathlib.Core.List.{List, _++_}

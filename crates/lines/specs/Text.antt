@@ -38,8 +38,8 @@ entriesText (x ∷ others) = (32 ∷ decimal x) ++ entriesText others
 unfoldable pub logText : List ℕ → List ℕ
 logText l = lineText (108 ∷ 111 ∷ 103 ∷ []) (entriesText l)
 
--- A text has room in a buffer from a place on. It is put there, and the place after it is answered. Where it has no room nothing is written, and the place is
--- answered back.
+-- Where a text has room in a buffer from the place `at` on, it is put there and the place after it is answered. Where it has none, nothing is written and `at`
+-- is answered back.
 unfoldable pub fits : List ℕ → List ℕ → ℕ → Bool
 fits text out at = leb (at + length text) (length out)
 

@@ -289,8 +289,8 @@ fn put_line(out: &mut [u8], at: usize, word: &[u8], x: u8) -> usize
         return at;
     }
     let number = put_bytes(out, at, word);
-    let end = put_decimal(out, number, x);
-    put_byte(out, end, 10)
+    let newline = put_decimal(out, number, x);
+    put_byte(out, newline, 10)
 }
 
 // Writes what a call says.

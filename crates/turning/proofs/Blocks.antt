@@ -4,10 +4,10 @@ use mathlib.Core.Path.{_≡_, refl, sym, _∙_, ap, ap₂}
 use mathlib.Core.Bool.{Bool, true, false, cond}
 use mathlib.Core.List.{List, [], _∷_, _++_, append-assoc, append-nil, flatten}
 use mathlib.Core.Logic.{⊎-elim}
-use Prim.Native.Nat.{ℕ, _≤_, _<_}
+use Prim.Native.Nat.{ℕ}
 use native.Mathlib.Omega.{arith}
 use borrow.Author.Tests.{lt-ltb, le-ltb}
-use lib.Dec.{eqb, ltb}
+use lib.Dec.{eqb}
 use lib.ListN.{length, take, replicate, length-append}
 use lib.Seq.{length-take-le, take-all, take-append-le}
 use Rattle.laws.proofs.Cases.{below}
@@ -15,7 +15,7 @@ use Rattle.lines.specs.Command.{commandOf}
 use Rattle.lines.specs.Text.{replyText}
 use Rattle.turning.specs.Inside.{Session, grown, ended, fed, fedAll, finished, afresh, inBlocks}
 use Rattle.turning.specs.Program.{lastLine, linesFrom, textOf, output}
-use Rattle.turning.specs.Turn.{callOf, answerTo, imageAfter}
+use Rattle.turning.specs.Turn.{answerTo, imageAfter}
 use Rattle.turning.proofs.Feeding.{fed-append}
 
 abbrev session : List ℕ → List ℕ → List ℕ → Session

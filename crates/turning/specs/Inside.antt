@@ -22,10 +22,11 @@ pub record Session : Type 0 where
 unfoldable pub grown : List ℕ → ℕ → List ℕ
 grown l x = cond (ltb (length l) 17) (l ++ x ∷ []) l
 
--- a byte of input more, which ends the line or is one of its bytes
+-- the line has ended, and is answered
 unfoldable pub ended : Session → Session
 ended s = record { image = imageAfter (s .line) (s .image); line = []; text = s .text ++ replyText (answerTo (s .line) (s .image)) }
 
+-- a byte more of the input: a newline, or a byte of the line
 unfoldable pub fed : Session → ℕ → Session
 fed s x = cond (eqb x 10) (ended s) (record { image = s .image; line = grown (s .line) x; text = s .text })
 
@@ -37,10 +38,11 @@ fedAll s (x ∷ input) = fedAll (fed s x) input
 unfoldable pub finished : Session → List ℕ
 finished s = s .text ++ textOf (lastLine (s .line)) (s .image)
 
--- what is written for an input that comes in blocks: the text of each block, and after the last one the text of the end. So `run` goes about it.
+-- with no text, as each block begins
 abbrev pub afresh : Session → Session
 afresh s = record { image = s .image; line = s .line; text = [] }
 
+-- what is written for an input that comes in blocks: the text of each block, and after the last one the text of the end. So `run` goes about it.
 unfoldable pub inBlocks : Session → List (List ℕ) → List ℕ
 inBlocks s [] = finished (afresh s)
 inBlocks s (block ∷ others) = fedAll (afresh s) block .text ++ inBlocks (fedAll (afresh s) block) others

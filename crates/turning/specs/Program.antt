@@ -22,10 +22,11 @@ unfoldable pub linesFrom : List ℕ → List ℕ → List (List ℕ)
 linesFrom l [] = lastLine l
 linesFrom l (x ∷ input) = cond (eqb x 10) (l ∷ linesFrom [] input) (linesFrom (l ++ x ∷ []) input)
 
--- at the end of input
+-- the log that is held, none in an unsound image
 unfoldable pub heldLog : List ℕ → List ℕ
 heldLog b = cond (sound b) (read b .log) []
 
+-- what is written at the end of input
 unfoldable pub endText : List ℕ → List ℕ
 endText b = lockText (lockWord b) ++ logText (heldLog b)
 
@@ -34,5 +35,6 @@ unfoldable pub textOf : List (List ℕ) → List ℕ → List ℕ
 textOf [] b = endText b
 textOf (l ∷ others) b = replyText (answerTo l b) ++ textOf others (imageAfter l b)
 
+-- what is written for a whole input
 unfoldable pub output : List ℕ → List ℕ
 output input = textOf (linesFrom [] input) (replicate 1292 0)

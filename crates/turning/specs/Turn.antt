@@ -36,6 +36,7 @@ answerTo l b = replyOf (callOf (commandOf l)) b
 unfoldable pub imageAfter : List ℕ → List ℕ → List ℕ
 imageAfter l b = imageOf (callOf (commandOf l)) b
 
+-- what the contract of `turn` says
 pub record Turns (l b : List ℕ) (r : Reply) (b′ : List ℕ) : Type 0 where
   pub says : r ≡ answerTo l b
   pub leaves : b′ ≡ imageAfter l b

@@ -8,12 +8,11 @@ use lines::Command;
 use stage::Event;
 use stage::Reply;
 ghost use mathlib.Core.Path.{_≡_};
-ghost use mathlib.Core.List.{[], _++_};
 ghost use Prim.Native.Nat.{_+_, _*_, _≤_};
-ghost use lib.ListN.{length, take};
+ghost use lib.ListN.{length};
 ghost use Rattle.lines.specs.Inside.{Put};
 ghost use Rattle.lines.specs.Text.{logText};
-ghost use Rattle.turning.specs.Inside.{Session, fed, fedAll, finished, standing, takenBy, takenOf};
+ghost use Rattle.turning.specs.Inside.{fed, fedAll, finished, standing, takenBy, takenOf};
 ghost use Rattle.turning.specs.Program.{heldLog, endText};
 ghost use Rattle.turning.specs.Turn.{Turns};
 
@@ -84,7 +83,7 @@ fn answer(image: &mut [u8], line: &mut [u8], count: usize, block: &[u8], out: &m
     Place { count: kept, at }
 }
 
-// How many entries were taken.
+// How many entries of a log were taken, by what happened.
 fn taken_by(event: Event) -> usize
     ensures { λ r. ⌜ r ≡ takenBy event ⌝ }
 {
@@ -94,6 +93,7 @@ fn taken_by(event: Event) -> usize
     }
 }
 
+// The same, by what the call said.
 fn taken_of(reply: Reply) -> usize
     ensures { λ r. ⌜ r ≡ takenOf reply ⌝ }
 {

@@ -1,4 +1,4 @@
--- `parse` leaves a line over 16 bytes, and else goes by the letter.
+-- `parse` finds a line over 16 bytes malformed, and else goes by the letter.
 -- Assumes nothing.
 use borrow.Author.Needs.{needs}
 use borrow.Author.Tests.{le-ltb}

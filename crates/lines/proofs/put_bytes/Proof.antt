@@ -1,7 +1,6 @@
 -- `put_bytes` puts byte after byte. The invariant: those passed are put.
 -- Assumes nothing.
-use Prim.Native.Nat.{_≤_, _-_}
-use Prim.Native.Nat.{zero-le}
+use Prim.Native.Nat.{_≤_, _-_, zero-le}
 use native.Mathlib.Omega.{arith}
 use borrow.Author.Needs.{needs}
 use denote.Ref.{now}

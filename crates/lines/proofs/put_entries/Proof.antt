@@ -1,8 +1,7 @@
 -- `put_entries` puts entry after entry. The invariant: the text of those passed is put.
 -- Assumes nothing.
 use mathlib.Core.Path.{ap}
-use Prim.Native.Nat.{_≤_, _-_}
-use Prim.Native.Nat.{zero-le}
+use Prim.Native.Nat.{_≤_, _-_, zero-le}
 use native.Mathlib.Omega.{arith}
 use borrow.Author.Needs.{needs}
 use denote.Ref.{now}

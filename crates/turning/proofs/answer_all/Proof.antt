@@ -1,13 +1,11 @@
-use lib.ListN.{length}
-use borrow.Author.Needs.{needs}
-use Prim.Native.Nat.{_≤_}
+-- `answer_all` takes block after block. Nothing is said of the text; the invariant keeps the buffers as long as they are.
+-- Assumes nothing.
 use mathlib.Core.Path.{_≡_}
+use Prim.Native.Nat.{_≤_}
+use borrow.Author.Needs.{needs}
+use lib.ListN.{length}
 use Rattle.turning.proofs.answer_all.Statement.{statement}
 use Rattle.turning.proofs.answer_all.Tie as tie
-use Rattle.turning.proofs.answer_all.Reads as reads
-use Rattle.turning.proofs.answer_all.Lts as lts
-use Rattle.io.proofs.large_buffer.Reads as large-buffer-reads
-use Rattle.turning.proofs.answer_some.Reads as answer-some-reads
 
 abbrev Inv-loop : tie.InvT-loop
 Inv-loop image₀ line₀ out₀ block₀ count₀ turns₀ image line out block count turns =
@@ -16,63 +14,48 @@ Inv-loop image₀ line₀ out₀ block₀ count₀ turns₀ image line out block
 abbrev μ-loop : tie.MeasureT-loop
 μ-loop image₀ line₀ out₀ block₀ count₀ turns₀ image line out block count turns = turns
 
--- src/lib.rt:169:21
 large-buffer-requires : tie.Need-large-buffer-requires Inv-loop μ-loop
 large-buffer-requires c κs = search needs
 
--- src/lib.rt:172:5
 loop-holds : tie.Need-loop-holds Inv-loop μ-loop
 loop-holds c = search needs
 
--- src/lib.rt:173:53
 slice-aggregate-answer-some : tie.Need-slice-aggregate-answer-some Inv-loop μ-loop
 slice-aggregate-answer-some c = search needs
 
--- src/lib.rt:173:13
 answer-some-requires : tie.Need-answer-some-requires Inv-loop μ-loop
 answer-some-requires c κs = search needs
 
--- src/lib.rt:176:13
 same-length : tie.Need-same-length Inv-loop μ-loop
 same-length c = search needs
 
--- src/lib.rt:176:13
 same-length-2 : tie.Need-same-length-2 Inv-loop μ-loop
 same-length-2 c = search needs
 
--- src/lib.rt:176:13
 same-length-3 : tie.Need-same-length-3 Inv-loop μ-loop
 same-length-3 c = search needs
 
--- src/lib.rt:176:13
 returns : tie.Need-returns Inv-loop μ-loop
 returns c = search needs
 
--- src/lib.rt:178:9
 sub-turns : tie.Need-sub-turns Inv-loop μ-loop
 sub-turns c = search needs
 
--- src/lib.rt:172:5
 loop-less : tie.Need-loop-less Inv-loop μ-loop
 loop-less c = search needs
 
--- src/lib.rt:172:5
 loop-again : tie.Need-loop-again Inv-loop μ-loop
 loop-again c = search needs
 
--- src/lib.rt:165:1
 same-length-4 : tie.Need-same-length-4 Inv-loop μ-loop
 same-length-4 c = search needs
 
--- src/lib.rt:165:1
 same-length-5 : tie.Need-same-length-5 Inv-loop μ-loop
 same-length-5 c = search needs
 
--- src/lib.rt:165:1
 same-length-6 : tie.Need-same-length-6 Inv-loop μ-loop
 same-length-6 c = search needs
 
--- src/lib.rt:165:1
 returns-2 : tie.Need-returns-2 Inv-loop μ-loop
 returns-2 c = search needs
 

@@ -1,64 +1,48 @@
-use Rattle.turning.proofs.Ending.{finish-none, finish-line}
+-- `finish` answers a line that has begun, and puts the end.
+-- Assumes nothing.
+use borrow.Author.Needs.{needs}
 use Rattle.lines.proofs.Texts.{reply-short}
 use Rattle.lines.proofs.Putting.{room-left}
-use borrow.Author.Needs.{needs}
+use Rattle.turning.proofs.Ending.{finish-none, finish-line}
 use Rattle.turning.proofs.finish.Statement.{statement}
 use Rattle.turning.proofs.finish.Tie as tie
-use Rattle.turning.proofs.finish.Reads as reads
-use Rattle.turning.proofs.finish.Lts as lts
-use Rattle.lines.proofs.put_reply.Reads as put-reply-reads
-use Rattle.turning.proofs.put_end.Reads as put-end-reads
-use Rattle.turning.proofs.turn.Reads as turn-reads
 
--- src/lib.rt:128:9
 put-end-requires : tie.Need-put-end-requires
 put-end-requires c κs = search needs
 
--- src/lib.rt:128:9
 same-length : tie.Need-same-length
 same-length c = search needs
 
--- src/lib.rt:128:9
 same-length-2 : tie.Need-same-length-2
 same-length-2 c = search needs
 
--- src/lib.rt:128:9
 returns : tie.Need-returns
 returns c = finish-none _ _ _ _ (c .before .before .before .before .before .before .before .if1 .taken) (c .before .before .before .before .put-end .ensures)
 
--- src/lib.rt:130:29
 sub-turn : tie.Need-sub-turn
 sub-turn c = search needs
 
--- src/lib.rt:130:29
 part-turn-start : tie.Need-part-turn-start
 part-turn-start c = search needs
 
--- src/lib.rt:130:29
 part-turn-end : tie.Need-part-turn-end
 part-turn-end c = search needs
 
--- src/lib.rt:130:9
 turn-requires : tie.Need-turn-requires
 turn-requires c κs = search needs
 
--- src/lib.rt:131:9
 put-reply-requires : tie.Need-put-reply-requires
 put-reply-requires c κs = search needs
 
--- src/lib.rt:132:5
 put-end-requires-2 : tie.Need-put-end-requires-2
 put-end-requires-2 c κs = room-left 6 1037 (reply-short _) (c .before .before .before .before .before .before .before .before .before .before .before .before .before .before .before .pre .1) (c .before .before .before .before .put-reply .kept .0) (c .before .before .before .before .put-reply .ensures)
 
--- src/lib.rt:123:1
 same-length-3 : tie.Need-same-length-3
 same-length-3 c = search needs
 
--- src/lib.rt:123:1
 same-length-4 : tie.Need-same-length-4
 same-length-4 c = search needs
 
--- src/lib.rt:123:1
 returns-2 : tie.Need-returns-2
 returns-2 c = finish-line _ _ _ _ (c .before .before .before .before .before .before .before .before .before .before .before .before .before .before .before .before .if1 .left) (c .before .before .before .before .before .before .before .before .before .before .before .before .before .before .before .before .before .before .before .before .pre .0) (c .before .before .before .before .before .before .before .before .before .before .before .before .before .turn .ensures) (c .before .before .before .before .before .before .before .before .before .before .before .before .before .before .before .before .before .before .before .before .pre .1) (c .before .before .before .before .before .before .before .before .before .put-reply .kept .0) (c .before .before .before .before .before .before .before .before .before .put-reply .ensures) (c .before .before .before .before .put-end2 .ensures)
 

@@ -1,37 +1,28 @@
+-- `put_end` puts the line of the lock word, and that of the log after it.
+-- Assumes nothing.
+use native.Mathlib.Omega.{arith}
+use borrow.Author.Needs.{needs}
 use Rattle.lines.proofs.Texts.{lock-short}
 use Rattle.lines.proofs.Putting.{room-left}
 use Rattle.turning.proofs.Ending.{end-put}
-use native.Mathlib.Omega.{arith}
-use borrow.Author.Needs.{needs}
 use Rattle.turning.proofs.put_end.Statement.{statement}
 use Rattle.turning.proofs.put_end.Tie as tie
-use Rattle.turning.proofs.put_end.Reads as reads
-use Rattle.turning.proofs.put_end.Lts as lts
-use Rattle.image.proofs.lock_word.Reads as lock-word-reads
-use Rattle.lines.proofs.put_lock.Reads as put-lock-reads
-use Rattle.turning.proofs.put_held.Reads as put-held-reads
 
--- src/lib.rt:118:40
 lock-word-requires : tie.Need-lock-word-requires
 lock-word-requires c κs = search needs
 
--- src/lib.rt:118:9
 put-lock-requires : tie.Need-put-lock-requires
 put-lock-requires c κs = search needs
 
--- src/lib.rt:119:5
 put-held-requires : tie.Need-put-held-requires
 put-held-requires c κs = room-left 9 1028 (lock-short _) (c .before .before .before .before .before .before .before .before .before .before .pre) (c .before .before .before .before .put-lock .kept .0) (c .before .before .before .before .put-lock .ensures)
 
--- src/lib.rt:114:1
 same-length : tie.Need-same-length
 same-length c = search needs
 
--- src/lib.rt:114:1
 same-length-2 : tie.Need-same-length-2
 same-length-2 c = search needs
 
--- src/lib.rt:114:1
 returns : tie.Need-returns
 returns c = end-put _ _ (c .before .before .before .before .before .before .before .before .before .before .lock-word .ensures) (omega arith) (c .before .before .before .before .before .before .before .before .before .put-lock .kept .0) (c .before .before .before .before .before .before .before .before .before .put-lock .ensures) (c .before .before .before .before .put-held .ensures)
 
