@@ -1,7 +1,7 @@
 # What the scripts check and measure know of this machine. To be sourced.
 #
-# Rattle's archive is for x86-64. On any other machine there are two: the real one, which runs under an emulator, and
-# the same module compiled for this machine (see archive), for speed and for valgrind.
+# Rattle's archive and programs are for x86-64. On any other machine there are two of each: the real one, which runs
+# under an emulator, and the same module compiled for this machine (see archive), for speed and for valgrind.
 root=$(cd "$(dirname "${BASH_SOURCE[0]}")/.." && pwd -P)
 machine=$(uname -m)
 archives=$root/target/outside
@@ -34,9 +34,8 @@ run_for() { # ARCH PROGRAM WORDS..: a program that cargo_for built
   fi
 }
 
-turns=$root/target/bin/turns
-run_turns() { # the program turns, which is for x86-64
-  if [ "$machine" = x86_64 ]; then "$turns"; else qemu-x86_64 "$turns"; fi
+run_turns() { # ARCH: the program turns for machines of this kind
+  if [ "$1" = "$machine" ]; then "$archives/$1/turns"; else qemu-x86_64 "$archives/$1/turns"; fi
 }
 
 kinds=("$machine")
@@ -49,10 +48,11 @@ quietly() { # COMMAND..: what it says is shown only if it fails; $said keeps it
   }
 }
 
-build() { # for each kind of machine the archive, and the programs on it
+build() { # for each kind of machine the archive, the program turns, and the programs on the archive
   local kind
   for kind in "${kinds[@]}"; do
     quietly bash "$root/rust/archive" "$archives/$kind" "$kind"
+    quietly bash "$root/rust/archive" "$archives/$kind" "$kind" turns
     quietly cargo_for "$kind" build -p outside -p plain
   done
 }

@@ -1,8 +1,8 @@
 //! What the five calls cost, as seen by their caller.
 //!
 //! `measure time` prints for each call, on busy tables of 1, 8 and 64 modules, the time of a call to
-//! the archive through `mokroshel`, and its ratio to the plain desk and to one bare pass over the
-//! image's bytes (a comparison with a copy). `measure stack` prints the most stack that each call
+//! the archive through `mokroshel`, and its ratio to the plain desk, to the same with the log's rest
+//! compared as a block, and to one bare pass over the image's bytes (a comparison with a copy). `measure stack` prints the most stack that each call
 //! took. `measure lines N` prints N lines for `turns`.
 
 use std::hint::black_box;
@@ -46,15 +46,24 @@ fn archive(image: &mut [u8], log: &mut [u8], call: &Call) {
     });
 }
 
-fn plain(image: &mut [u8], log: &mut [u8], call: &Call) {
-    let _ = black_box(match call {
-        Call::SetUp { n } => plain::set_up(image, *n),
-        Call::BeginAcquisition { p, priority } => plain::begin_acquisition(image, *p, *priority),
-        Call::BeginRelease { p } => plain::begin_release(image, *p),
-        Call::Step { p } => plain::step(image, *p),
-        Call::TakeLog { .. } => plain::take_log(image, log),
-    });
+macro_rules! in_rust {
+    ($desk:ident) => {
+        fn $desk(image: &mut [u8], log: &mut [u8], call: &Call) {
+            let _ = black_box(match call {
+                Call::SetUp { n } => $desk::set_up(image, *n),
+                Call::BeginAcquisition { p, priority } => {
+                    $desk::begin_acquisition(image, *p, *priority)
+                }
+                Call::BeginRelease { p } => $desk::begin_release(image, *p),
+                Call::Step { p } => $desk::step(image, *p),
+                Call::TakeLog { .. } => $desk::take_log(image, log),
+            });
+        }
+    };
 }
+
+in_rust!(plain);
+in_rust!(plain_block);
 
 /// A busy table: at each turn whatever a random module's stage asks for.
 struct Busy {
@@ -131,28 +140,30 @@ fn median(mut of: Vec<f64>) -> f64 {
 }
 
 fn times() {
-    println!("call                n   archive     plain  one pass   to plain   to a pass");
+    println!("                              ns                          ratio to");
+    println!("call                n archive   plain   block    pass   plain   block    pass");
     for (wanted, name) in NAMES.iter().enumerate() {
         for n in [1, 8, 64] {
             let before = Busy::new(n).before(wanted);
-            let mut all: [Vec<f64>; 4] = Default::default();
+            let mut all: [Vec<f64>; 5] = Default::default();
             for _ in 0..ROUNDS {
                 all[0].push(time(&before, |_, _, _| ()));
-                all[1].push(time(&before, |image, log, (_, call)| {
-                    archive(image, log, call)
-                }));
-                all[2].push(time(&before, |image, log, (_, call)| {
-                    plain(image, log, call)
-                }));
-                all[3].push(time(&before, |image, _, (copy, _)| {
+                for (times, desk) in all[1..].iter_mut().zip([archive, plain, plain_block]) {
+                    times.push(time(&before, |image, log, (_, call)| {
+                        desk(image, log, call)
+                    }));
+                }
+                all[4].push(time(&before, |image, _, (copy, _)| {
                     black_box(black_box(&*image) == black_box(&copy[..]));
                 }));
             }
-            let [restore, archive, plain, pass] = all.map(median);
-            let [archive, plain, pass] = [archive, plain, pass].map(|ns| ns - restore);
+            let [restore, others @ ..] = all.map(median);
+            let [archive, plain, block, pass] = others.map(|ns| ns - restore);
+            print!("{name:<18}{n:>3}{archive:>8.1}{plain:>8.1}{block:>8.1}{pass:>8.1}");
             println!(
-                "{name:<18}{n:>3}{archive:>7.1} ns{plain:>7.1} ns{pass:>7.1} ns{:>11.2}{:>12.2}",
+                "{:>8.2}{:>8.2}{:>8.2}",
                 archive / plain,
+                archive / block,
                 archive / pass
             );
         }
