@@ -5,32 +5,13 @@ use mathlib.Core.Path.{_≡_}
 use mathlib.Core.Bool.{Bool, true, false, cond}
 use mathlib.Core.List.{List}
 use lib.Dec.{eqb, leb}
+use Rattle.stage.specs.Answers.{moduleAdmitted, lengthTaken}
 use Rattle.stage.specs.Calls.{Call, setUp, beginAcquisition, beginRelease, step, takeLog}
 use Rattle.stage.specs.declared.Event.{Event}
 use Rattle.stage.specs.declared.Event.the-variants.{Done, Waiting, Admitted, Joined, Left, Finished, Taken}
 use Rattle.stage.specs.declared.Reply.{Reply}
 use Rattle.stage.specs.declared.Reply.the-variants.{Refused, Answered}
 use Rattle.image.specs.Call.{reply, image}
-
--- the admitted module, 0 where the event is no admission
-abbrev pub admitted : Event → ℕ
-admitted Done = 0
-admitted Waiting = 0
-admitted (Admitted p) = p
-admitted Joined = 0
-admitted Left = 0
-admitted Finished = 0
-admitted (Taken k) = 0
-
--- the length of the log taken, 0 where none was
-abbrev pub lengthTaken : Event → ℕ
-lengthTaken Done = 0
-lengthTaken Waiting = 0
-lengthTaken (Admitted p) = 0
-lengthTaken Joined = 0
-lengthTaken Left = 0
-lengthTaken Finished = 0
-lengthTaken (Taken k) = k
 
 -- the top bit of 32
 abbrev pub top : ℕ
@@ -40,7 +21,7 @@ top = 2147483648
 -- the length of the log taken in the upper half.
 unfoldable pub packed : Reply → ℕ
 packed (Refused k) = top + k
-packed (Answered a) = a .number + 256 * admitted (a .event) + 65536 * lengthTaken (a .event)
+packed (Answered a) = a .number + 256 * moduleAdmitted (a .event) + 65536 * lengthTaken (a .event)
 
 -- what every contract of an exported call says: from the image b the call c answers r and leaves the image b′
 pub record Exports (c : Call) (b : List ℕ) (r : ℕ) (b′ : List ℕ) : Type 0 where

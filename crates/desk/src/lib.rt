@@ -1,34 +1,13 @@
 // The five calls, for programs in other languages: `c/mokroshel.h` declares them.
 //
 // 01, "What a call says". An exported function returns a number, so each packs what its call says into one of 32 bits.
-use stage::Event;
 use stage::Reply;
 ghost use mathlib.Core.Path.{_≡_};
 ghost use lib.ListN.{length};
 ghost use Rattle.stage.specs.Calls.{setUp, beginAcquisition, beginRelease, step, takeLog};
 ghost use Rattle.image.specs.Call.{buffer};
 ghost use Rattle.desk.specs.Packed as Packed;
-ghost use Rattle.desk.specs.Packed.{Exports, lengthTaken};
-
-// The admitted module, 0 where the event is no admission.
-fn admitted(event: Event) -> u8
-    ensures { λ r. ⌜ r ≡ Packed.admitted event ⌝ }
-{
-    match event {
-        Event::Admitted(p) => p,
-        _ => 0,
-    }
-}
-
-// The length of the log taken, 0 where none was.
-fn length_taken(event: Event) -> u16
-    ensures { λ r. ⌜ r ≡ lengthTaken event ⌝ }
-{
-    match event {
-        Event::Taken(k) => k,
-        _ => 0,
-    }
-}
+ghost use Rattle.desk.specs.Packed.{Exports};
 
 // What a call says, as one number.
 fn packed(reply: Reply) -> u32
@@ -39,8 +18,8 @@ fn packed(reply: Reply) -> u32
         Reply::Answered(a) => {
             let event = a.event;
             (a.number as u32)
-                + 256 * (admitted(event) as u32)
-                + 65536 * (length_taken(event) as u32)
+                + 256 * (stage::module_admitted(event) as u32)
+                + 65536 * (stage::length_taken(event) as u32)
         }
     }
 }

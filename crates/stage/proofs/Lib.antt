@@ -2,6 +2,7 @@ pub mod AtStage
 pub mod ByStage
 pub mod Events
 pub mod Every
+pub mod Others
 pub mod Refusing
 pub mod SoundCalls
 pub mod Soundly

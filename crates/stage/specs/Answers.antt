@@ -17,3 +17,22 @@ numberOf (Taken length) = 0
 -- the answer for an event: its number, and it
 abbrev pub answerOf : Event → Answer
 answerOf e = record { number = numberOf e; event = e }
+
+-- the module that an event admits, and the length of the log that it takes; 0 where there is none
+abbrev pub moduleAdmitted : Event → ℕ
+moduleAdmitted Done = 0
+moduleAdmitted Waiting = 0
+moduleAdmitted (Admitted module·) = module·
+moduleAdmitted Joined = 0
+moduleAdmitted Left = 0
+moduleAdmitted Finished = 0
+moduleAdmitted (Taken length) = 0
+
+abbrev pub lengthTaken : Event → ℕ
+lengthTaken Done = 0
+lengthTaken Waiting = 0
+lengthTaken (Admitted module·) = 0
+lengthTaken Joined = 0
+lengthTaken Left = 0
+lengthTaken Finished = 0
+lengthTaken (Taken length) = length

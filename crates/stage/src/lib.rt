@@ -8,7 +8,7 @@ use link::Swapped;
 ghost use mathlib.Core.Path.{_≡_};
 ghost use lib.Dec.{leb};
 ghost use Rattle.link.specs.Count.{next, size};
-ghost use Rattle.stage.specs.Answers.{answerOf};
+ghost use Rattle.stage.specs.Answers.{answerOf, moduleAdmitted, lengthTaken};
 ghost use Rattle.stage.specs.Calls.{within};
 ghost use Rattle.stage.specs.Rows.{goes, withOwn, withPriority, looksAt, stepped};
 ghost use Rattle.stage.specs.Sound.{at, soundLink, soundOwn, soundStage, soundPrivate, soundShared};
@@ -102,6 +102,26 @@ impl Answer {
             number: 0,
             event: Event::Taken(length),
         }
+    }
+}
+
+// The module that an event admits, 0 where it is no admission.
+pub fn module_admitted(event: Event) -> u8
+    ensures { λ r. ⌜ r ≡ moduleAdmitted event ⌝ }
+{
+    match event {
+        Event::Admitted(p) => p,
+        _ => 0,
+    }
+}
+
+// The length of the log that an event takes, 0 where it takes none.
+pub fn length_taken(event: Event) -> u16
+    ensures { λ r. ⌜ r ≡ lengthTaken event ⌝ }
+{
+    match event {
+        Event::Taken(length) => length,
+        _ => 0,
     }
 }
 

@@ -8,13 +8,8 @@ use native.Mathlib.Omega.{arith}
 use borrow.Author.Tests.{le-ltb}
 use lib.ListN.{length, take, drop}
 use lib.Seq.{length-take-le, take-append-seam}
-use denote.Enum.Declared.{tagOf}
-use types.Run.{OneOf, miss}
 use Rattle.stage.specs.Calls.{takeLog, capacity, refusals, refusing, answered}
-use Rattle.stage.specs.declared.Event.{Event}
-use Rattle.stage.specs.declared.Event.the-variants.{Done, Waiting, Admitted, Joined, Left, Finished, Taken}
 use Rattle.stage.specs.declared.Reply.{Reply}
-use Rattle.stage.proofs.Event.{the-type}
 use Rattle.layout.specs.Layout.{read}
 use Rattle.layout.proofs.Rewritten.{length-held}
 use Rattle.soundness.specs.SoundImage.{sound}
@@ -25,22 +20,9 @@ use Rattle.lines.specs.Text.{replyText, lockText, logText, Writes}
 use Rattle.lines.proofs.Entries.{log-short}
 use Rattle.lines.proofs.Putting.{put-then, put-same, writes-put}
 use Rattle.lines.proofs.Texts.{reply-short, lock-short}
-use Rattle.turning.specs.Inside.{finished, standing, takenBy, takenOf}
+use Rattle.turning.specs.Inside.{finished, standing, takenOf}
 use Rattle.turning.specs.Program.{lastLine, heldLog, endText, textOf}
 use Rattle.turning.specs.Turn.{answerTo, imageAfter, Turns}
-
--- no other event is that a log was taken
-abbrev others : List ℕ
-others = 0 ∷ 1 ∷ 2 ∷ 3 ∷ 4 ∷ 5 ∷ []
-
-pub none-taken : (e : Event) → OneOf others (tagOf the-type e) → takenBy e ≡ 0
-none-taken Done o = refl
-none-taken Waiting o = refl
-none-taken (Admitted p) o = refl
-none-taken Joined o = refl
-none-taken Left o = refl
-none-taken Finished o = refl
-none-taken (Taken k) o = absurd (miss others 6 tt o)
 
 -- what taking the log says, and what it leaves in a buffer that is long enough, are the held log
 module _ (b lent : List ℕ) (room : length lent ≡ capacity) where

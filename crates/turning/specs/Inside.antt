@@ -4,10 +4,9 @@ use mathlib.Core.Bool.{cond}
 use mathlib.Core.List.{List, [], _∷_, _++_}
 use lib.Dec.{eqb, ltb}
 use lib.ListN.{length, take}
+use Rattle.stage.specs.Answers.{lengthTaken}
 use Rattle.stage.specs.declared.Reply.{Reply}
 use Rattle.stage.specs.declared.Reply.the-variants.{Refused, Answered}
-use Rattle.stage.specs.declared.Event.{Event}
-use Rattle.stage.specs.declared.Event.the-variants.{Done, Waiting, Admitted, Joined, Left, Finished, Taken}
 use Rattle.lines.specs.Text.{replyText}
 use Rattle.turning.specs.Turn.{answerTo, imageAfter}
 use Rattle.turning.specs.Program.{lastLine, textOf}
@@ -52,15 +51,6 @@ unfoldable pub standing : List ℕ → List ℕ → ℕ → List ℕ → ℕ →
 standing image line count out at = record { image = image; line = take count line; text = take at out }
 
 -- how many entries of a log were taken
-abbrev pub takenBy : Event → ℕ
-takenBy Done = 0
-takenBy Waiting = 0
-takenBy (Admitted p) = 0
-takenBy Joined = 0
-takenBy Left = 0
-takenBy Finished = 0
-takenBy (Taken k) = k
-
 abbrev pub takenOf : Reply → ℕ
 takenOf (Refused k) = 0
-takenOf (Answered a) = takenBy (a .event)
+takenOf (Answered a) = lengthTaken (a .event)

@@ -5,14 +5,13 @@
 use libc::STDIN_FILENO;
 use libc::STDOUT_FILENO;
 use lines::Command;
-use stage::Event;
 use stage::Reply;
 ghost use mathlib.Core.Path.{_≡_};
 ghost use Prim.Native.Nat.{_+_, _*_, _≤_};
 ghost use lib.ListN.{length};
 ghost use Rattle.lines.specs.Inside.{Put};
 ghost use Rattle.lines.specs.Text.{logText};
-ghost use Rattle.turning.specs.Inside.{fed, fedAll, finished, standing, takenBy, takenOf};
+ghost use Rattle.turning.specs.Inside.{fed, fedAll, finished, standing, takenOf};
 ghost use Rattle.turning.specs.Program.{heldLog, endText};
 ghost use Rattle.turning.specs.Turn.{Turns};
 
@@ -83,17 +82,7 @@ fn answer(image: &mut [u8], line: &mut [u8], count: usize, block: &[u8], out: &m
     Place { count: kept, at }
 }
 
-// How many entries of a log were taken, by what happened.
-fn taken_by(event: Event) -> usize
-    ensures { λ r. ⌜ r ≡ takenBy event ⌝ }
-{
-    match event {
-        Event::Taken(length) => length as usize,
-        _ => 0,
-    }
-}
-
-// The same, by what the call said.
+// How many entries of a log were taken.
 fn taken_of(reply: Reply) -> usize
     ensures { λ r. ⌜ r ≡ takenOf reply ⌝ }
 {
@@ -101,7 +90,7 @@ fn taken_of(reply: Reply) -> usize
         Reply::Refused(_) => 0,
         Reply::Answered(a) => {
             let event = a.event;
-            taken_by(event)
+            stage::length_taken(event) as usize
         }
     }
 }

@@ -20,8 +20,8 @@ enum-known-reply-2 c = search needs
 cast-result-2 : tie.Need-cast-result-2
 cast-result-2 c = search needs
 
-admitted-requires : tie.Need-admitted-requires
-admitted-requires c κs = search needs
+module-admitted-requires : tie.Need-module-admitted-requires
+module-admitted-requires c κs = search needs
 
 cast-result-3 : tie.Need-cast-result-3
 cast-result-3 c = search needs
@@ -49,7 +49,7 @@ returns c = refusal _ _ (c .before .reply .given .1)
 
 returns-2 : tie.Need-returns-2
 returns-2 c =
-    answer _ (c .before .before .before .before .reply2 .given .0 .0) _ _ (c .before .before .before .before .reply2 .given .1) (c .before .admitted .ensures) (c .length-taken .ensures)
+    answer _ (c .before .before .before .before .reply2 .given .0 .0) _ _ (c .before .before .before .before .reply2 .given .1) (c .before .module-admitted .ensures) (c .length-taken .ensures)
 
 pub packed-spec : {M : Type 1} → statement M
 packed-spec =
@@ -60,7 +60,7 @@ packed-spec =
     add-result
     enum-known-reply-2
     cast-result-2
-    admitted-requires
+    module-admitted-requires
     cast-result-3
     mul-result
     add-result-2

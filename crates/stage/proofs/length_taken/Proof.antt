@@ -1,9 +1,9 @@
 -- `length_taken` is what the definition has: the length of a log taken, 0 for all other events.
 -- Assumes nothing.
 use borrow.Author.Needs.{needs}
-use Rattle.desk.proofs.Others.{none-taken}
-use Rattle.desk.proofs.length_taken.Statement.{statement}
-use Rattle.desk.proofs.length_taken.Tie as tie
+use Rattle.stage.proofs.Others.{none-taken}
+use Rattle.stage.proofs.length_taken.Statement.{statement}
+use Rattle.stage.proofs.length_taken.Tie as tie
 
 enum-known-event : tie.Need-enum-known-event
 enum-known-event c = search needs

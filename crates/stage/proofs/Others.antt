@@ -5,10 +5,10 @@ use mathlib.Core.List.{List, [], _∷_}
 use Prim.Native.Nat.{ℕ}
 use denote.Enum.Declared.{tagOf}
 use types.Run.{OneOf, miss}
 use Rattle.stage.proofs.Event.{the-type}
 use Rattle.stage.specs.declared.Event.{Event}
 use Rattle.stage.specs.declared.Event.the-variants.{Done, Waiting, Admitted, Joined, Left, Finished, Taken}
-use Rattle.desk.specs.Packed.{admitted, lengthTaken}
+use Rattle.stage.specs.Answers.{moduleAdmitted, lengthTaken}
 
 -- the places of the others among the variants
 abbrev but-admitted : List ℕ
@@ -17,7 +17,7 @@ but-admitted = 0 ∷ 1 ∷ 3 ∷ 4 ∷ 5 ∷ 6 ∷ []
 abbrev but-taken : List ℕ
 but-taken = 0 ∷ 1 ∷ 2 ∷ 3 ∷ 4 ∷ 5 ∷ []
 
-pub none-admitted : (e : Event) → OneOf but-admitted (tagOf the-type e) → 0 ≡ admitted e
+pub none-admitted : (e : Event) → OneOf but-admitted (tagOf the-type e) → 0 ≡ moduleAdmitted e
 none-admitted Done o = refl
 none-admitted Waiting o = refl
 none-admitted (Admitted p) o = absurd (miss but-admitted 2 tt o)
