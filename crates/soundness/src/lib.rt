@@ -16,9 +16,10 @@ use stage::Shared;
 ghost use mathlib.Core.Path.{_≡_};
 ghost use mathlib.Core.Bool.{_&&_};
 ghost use Prim.Native.Nat.{_+_, _-_, _*_, _<_, _≤_, max};
+ghost use lib.Dec.{leb};
 ghost use lib.ListN.{length};
 ghost use Rattle.stage.specs.Calls.{within};
-ghost use Rattle.stage.specs.Sound.{each};
+ghost use Rattle.stage.specs.Sound.{at, each, soundLink, soundOwn, soundStage, soundPrivate, soundShared};
 ghost use Rattle.layout.specs.Layout as Layout;
 ghost use Rattle.soundness.specs.SoundImage as SoundImage;
 ghost use Rattle.soundness.specs.Parts.{trailerRight, logRight, recordRight, recordsRight, leastTable, greatestTable, leastRows, greatestRows, lanesRight, contentRight};
@@ -218,6 +219,94 @@ fn sound_many(image: &[u8], first: usize, n: usize) -> bool
     all_within(0, 0, &off)
 }
 
+// Whether a link is sound in a table of n modules.
+fn sound_link(n: u8, l: Link) -> bool
+    ensures { λ r. ⌜ r ≡ soundLink n l ⌝ }
+{
+    if n < l.pointer {
+        return false;
+    }
+    l.mark <= 1
+}
+
+// Whether x lies between the two.
+fn is_within(low: u8, high: u8, x: u8) -> bool
+    ensures { λ r. ⌜ r ≡ within low high x ⌝ }
+{
+    if x < low {
+        return false;
+    }
+    x <= high
+}
+
+// Whether own priority is 0 at stage 0 and 1 to 254 elsewhere.
+fn sound_own(stage: u8, own: u8) -> bool
+    ensures { λ r. ⌜ r ≡ soundOwn stage own ⌝ }
+{
+    match stage {
+        0 => own == 0,
+        _ => is_within(1, 254, own),
+    }
+}
+
+// Whether x isn't 0 at the stages from one to another.
+fn set_at(low: u8, high: u8, stage: u8, x: u8) -> bool
+    ensures { λ r. ⌜ r ≡ at (within low high stage) (leb 1 x) ⌝ }
+{
+    if stage < low {
+        return true;
+    }
+    if high < stage {
+        return true;
+    }
+    1 <= x
+}
+
+// Whether a module's stage allows its own priority, prev, w's pointer and s.
+fn sound_stage(stage: u8, own: u8, prev: u8, pointer: u8, s: u8) -> bool
+    ensures { λ r. ⌜ r ≡ soundStage stage own prev pointer s ⌝ }
+{
+    if 18 < stage {
+        return false;
+    }
+    if !sound_own(stage, own) {
+        return false;
+    }
+    if !set_at(4, 10, stage, prev) {
+        return false;
+    }
+    if !set_at(7, 7, stage, pointer) {
+        return false;
+    }
+    set_at(17, 18, stage, s)
+}
+
+// Whether a module's private part is sound in a table of n modules.
+fn sound_private(n: u8, me: Private) -> bool
+    ensures { λ r. ⌜ r ≡ soundPrivate n me ⌝ }
+{
+    if !sound_link(n, me.w) {
+        return false;
+    }
+    if n < me.prev {
+        return false;
+    }
+    if n < me.s {
+        return false;
+    }
+    sound_stage(me.stage, me.own, me.prev, me.w.pointer, me.s)
+}
+
+// Whether a module's shared part is sound in a table of n modules.
+fn sound_shared(n: u8, its: Shared) -> bool
+    ensures { λ r. ⌜ r ≡ soundShared n its ⌝ }
+{
+    if !sound_link(n, its.link) {
+        return false;
+    }
+    its.locked <= 1
+}
+
 // Whether the record at a place is sound, rule by rule. The counts may be any, so they are not read.
 fn sound_record(image: &[u8], at: usize, n: u8) -> bool
     requires { ⌜ at + 16 ≤ length (now image) ⌝ }
@@ -243,10 +332,7 @@ fn sound_record(image: &[u8], at: usize, n: u8) -> bool
         priority: image[at + 12],
         locked: image[at + 13],
     };
-    (image[at + 5] == 0)
-        & (image[at + 15] == 0)
-        & stage::sound_private(n, me)
-        & stage::sound_shared(n, its)
+    (image[at + 5] == 0) & (image[at + 15] == 0) & sound_private(n, me) & sound_shared(n, its)
 }
 
 // Whether the first n records from a place on are sound, one after the other. For a few that takes less time than the tables do.
