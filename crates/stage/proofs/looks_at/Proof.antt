@@ -5,9 +5,6 @@ use Rattle.stage.proofs.AtStage.{tests, at-itself}
 use Rattle.stage.proofs.looks_at.Statement.{statement}
 use Rattle.stage.proofs.looks_at.Tie as tie
 
-returns-8 : tie.Need-returns-8
-returns-8 c = at-itself _ _ (c .match .rest)
-
 pub looks-at-spec : {M : Type 1} → statement M
 unfolding find rows
 looks-at-spec =
@@ -20,4 +17,4 @@ looks-at-spec =
     (λ c. search tests)
     (λ c. search tests)
     (λ c. search tests)
-    returns-8)
+    (λ c. at-itself _ _ (c .match .rest)))
