@@ -6,10 +6,10 @@
 // or more, on what the records hold.
 //
 // In a smaller table the records are looked at rule by rule (`sound_few`). In a larger one (`sound_many`) a record is looked at in 16
-// lanes, a byte in each. A byte's place and the record's stage give it a least and a greatest, which two
-// small tables have. `off` keeps, for each place, how far any byte there lay outside of its two, and is asked once, at the end. The
-// compiler holds 16 lanes in one register only if it can do the same in all of them: so the rules are rows of numbers, looked up by the
-// stage, and are not written out byte by byte. That these rows are the rules is shown in proofs/Tables.antt.
+// lanes, a byte in each. A byte's place and the record's stage give it a least and a greatest, which two small tables have. `off` keeps,
+// for each place, how far any byte there lay outside of its two, and is asked once, at the end. The compiler holds 16 lanes in one
+// register only if it can do the same in all of them, and if nothing else looks at a record's bytes: so the rules are rows of numbers,
+// looked up by the stage, and are not written out byte by byte. That these rows are the rules is shown in proofs/Tables.antt.
 use link::Link;
 use stage::Private;
 use stage::Shared;
