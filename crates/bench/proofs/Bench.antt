@@ -3,7 +3,7 @@
 use mathlib.Core.Path.{refl}
 use Rattle.link.specs.Operations.{fresh, changed, same, swapped}
 use Rattle.stage.specs.Calls.{refusals, refusing, answered, after}
-use Rattle.stage.specs.Rows.{row1, row2, row3, row4, row5, row6, row7, row8, row9, row10, row11, row12, row14, row15, row16, row17, row18, after9, rows, find, looksAt, stepped}
+use Rattle.stage.specs.Rows.{rows, find, looksAt, stepped}
 use Rattle.stage.specs.Sound.{soundLink, soundOwn, soundStage, soundPrivate, soundShared, every, each, soundTable}
 use Rattle.stage.specs.Table.{upd, idle, untouched, freshTable, begunAcquisition, begunRelease, stepOf, logged, afterStep}
 use Rattle.layout.specs.Layout.{two, four, privateAt, sharedAt, held, read, recordOf, recordsOf, logOf, trailerOf, write, put}
@@ -12,9 +12,8 @@ use Rattle.image.specs.Call.{refused, reply, image}
 use Rattle.bench.specs.Table.{insiders, followed, figures, equal, counting, meets, allMeet, steps, goes, throughout, B1, B2, B3, B4, overtaken, B5, B6, B7, B8, B9, B10, table, BenchTable}
 
 pub bench-table : BenchTable
-unfolding fresh changed same swapped refusals refusing answered after row1 row2 row3 row4 row5 row6 row7 row8 row9 row10 row11 row12 row14
-    row15 row16 row17 row18 after9 rows find looksAt stepped soundLink soundOwn soundStage soundPrivate soundShared every each soundTable
-    upd idle untouched freshTable begunAcquisition begunRelease stepOf logged afterStep two four privateAt sharedAt held read recordOf
-    recordsOf logOf trailerOf write put soundTrailer soundZeros soundLog sound refused reply image insiders followed figures equal counting
-    meets allMeet steps goes throughout B1 B2 B3 B4 overtaken B5 B6 B7 B8 B9 B10 table
+unfolding fresh changed same swapped refusals refusing answered after rows find looksAt stepped soundLink soundOwn soundStage soundPrivate
+    soundShared every each soundTable upd idle untouched freshTable begunAcquisition begunRelease stepOf logged afterStep two four privateAt
+    sharedAt held read recordOf recordsOf logOf trailerOf write put soundTrailer soundZeros soundLog sound refused reply image insiders
+    followed figures equal counting meets allMeet steps goes throughout B1 B2 B3 B4 overtaken B5 B6 B7 B8 B9 B10 table
 bench-table = refl

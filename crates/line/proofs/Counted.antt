@@ -16,7 +16,7 @@ use Rattle.link.specs.declared.Link.{Link}
 use Rattle.link.specs.declared.Swapped.{Swapped}
 use Rattle.stage.proofs.Update.{upd-all, upd-kept}
 use Rattle.stage.specs.Calls.{Call, setUp, beginAcquisition, beginRelease, step, takeLog, after}
-use Rattle.stage.specs.Rows.{find, rows, noStep, looksAt, stepped, row1, row2, row3, row4, row5, row6, row7, row8, after9, row9, row10, row11, row12, row14, row15, row16, row17, row18}
+use Rattle.stage.specs.Rows.{find, rows, looksAt, stepped, after9}
 use Rattle.stage.specs.Table.{Table, upd, begunAcquisition, begunRelease, stepOf, afterStep, logTaken}
 use Rattle.stage.specs.declared.Private.{Private}
 use Rattle.stage.specs.declared.Shared.{Shared}
@@ -37,7 +37,7 @@ module _ (p : ℕ) (me : Private) (its : Shared) (lock : ℕ) where
   row k = find rows k .row suc p me its lock
 
   one-on : (k : ℕ) → k ≤ 18 → OneOn (its .link) (row k .its .link)
-  unfolding find rows noStep row1 row2 row3 row4 row5 row6 row7 row8 after9 row9 row10 row11 row12 row14 row15 row16 row17 row18 swapped changed
+  unfolding find rows swapped changed
   one-on =
       by-stage (λ k. OneOn (its .link) (row k .its .link))
       (inl refl)
@@ -67,7 +67,7 @@ module _ (p : ℕ) (me : Private) (its : Shared) (lock : ℕ) where
       → (r .me .prev ≡ me .prev) × (((k ≡ 5) × (r .me .w ≡ its .link) × (r .its ≡ its)) ⊎ ((k ≢ 5) × T (among k readers) × (r .me .w ≡ me .w)))
 
   reads-on : (k : ℕ) → k ≤ 18 → me .stage ≡ k → Reads k (row k)
-  unfolding find rows noStep row1 row2 row3 row4 row5 row6 row7 row8 after9 row9 row10 row11 row12 row14 row15 row16 row17 row18 swapped
+  unfolding find rows swapped
   reads-on =
       by-stage (λ k. me .stage ≡ k → Reads k (row k))
       (λ e t. still 0 e t (λ z. z))

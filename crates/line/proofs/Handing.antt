@@ -39,7 +39,7 @@ module _ (o : Course) {private : ℕ → Private} {sh : ℕ → Shared} {lock : 
   same-link x its′ e = upd-all sh x its′ (λ q s. s .link ≡ sh q .link) e (λ q n. refl)
 
   pub row17-keeps : private p .stage ≡ 17 → After o private sh p (private p .s) (row17 suc p (private p) (sh (private p .s)) lock)
-  unfolding row17 stepping
+  unfolding stepping
   row17-keeps e = (
     h,
     record {
@@ -88,7 +88,7 @@ module _ (o : Course) {private : ℕ → Private} {sh : ℕ → Shared} {lock : 
       sh′ = upd sh s its′
 
   pub row18-keeps : private p .stage ≡ 18 → After o private sh p (private p .s) (row18 suc p (private p) (sh (private p .s)) lock)
-  unfolding row18 stepping
+  unfolding stepping
   row18-keeps e = (
     s,
     record {

@@ -27,7 +27,7 @@ module _ (o : Course) {private : ℕ → Private} {sh : ℕ → Shared} {lock : 
   l = o .line
 
   pub row11-keeps : private p .stage ≡ 11 → After o private sh p p (row11 suc p (private p) (sh p) lock)
-  unfolding row11 stepping changed
+  unfolding stepping changed
   row11-keeps e =
       let s = stands-at i p 11 e .waits tt in (
         h,
@@ -38,7 +38,7 @@ module _ (o : Course) {private : ℕ → Private} {sh : ℕ → Shared} {lock : 
       )
 
   pub row12-keeps : private p .stage ≡ 12 → After o private sh p p (row12 suc p (private p) (sh p) lock)
-  unfolding row12 stepping
+  unfolding stepping
   row12-keeps e =
       let s = stands-at i p 12 e .waits tt in
       choose (After o private sh p p) (eqb (sh p .locked) 0)
@@ -54,7 +54,7 @@ module _ (o : Course) {private : ℕ → Private} {sh : ℕ → Shared} {lock : 
       (λ wait. (h, subst₂ (λ (f : ℕ → Private) (f′ : ℕ → Shared). Inv (o .given) f f′ lock l h) (sym (upd-kept private p)) (sym (upd-kept sh p)) i))
 
   pub row3-keeps : private p .stage ≡ 3 → After o private sh p p (row3 suc p (private p) (sh p) lock)
-  unfolding row3 stepping changed
+  unfolding stepping changed
   row3-keeps e =
       let e′ = stands-at i p 3 e .holds tt in
       let f = holder-at i p 3 e e′ .first tt in (
@@ -78,7 +78,7 @@ module _ (o : Course) {private : ℕ → Private} {sh : ℕ → Shared} {lock : 
       )
 
   pub row15-keeps : private p .stage ≡ 15 → After o private sh p p (row15 suc p (private p) (sh p) lock)
-  unfolding row15 stepping
+  unfolding stepping
   row15-keeps e =
       let e′ = stands-at i p 15 e .holds tt in
       let f = holder-at i p 15 e e′ in (
@@ -90,7 +90,7 @@ module _ (o : Course) {private : ℕ → Private} {sh : ℕ → Shared} {lock : 
       )
 
   pub row16-keeps : private p .stage ≡ 16 → After o private sh p p (row16 suc p (private p) (sh p) lock)
-  unfolding row16 stepping
+  unfolding stepping
   row16-keeps e =
       let e′ = stands-at i p 16 e .holds tt in
       let f = holder-at i p 16 e e′ in

@@ -136,7 +136,7 @@ joining g private sh lock (y ∷ l) h p i some e as·read =
 pub row9-keeps :
     (o : Course) {private : ℕ → Private} {sh : ℕ → Shared} {lock h : ℕ} → Inv (o .given) private sh lock (o .line) h → (p : ℕ) → p ≢ 0
     → private p .stage ≡ 9 → After o private sh p (private p .prev) (row9 suc p (private p) (sh (private p .prev)) lock)
-unfolding row9 swapped after9 stepping
+unfolding swapped stepping
 row9-keeps o {private} {sh} {lock} {h} i p some e =
     let me = private p in
     let its = sh (me .prev) in

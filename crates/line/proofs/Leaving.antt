@@ -93,5 +93,5 @@ leaving g private sh lock (x ∷ l) h p i some e = (
 pub row14-keeps :
     (o : Course) {private : ℕ → Private} {sh : ℕ → Shared} {lock h : ℕ} → Inv (o .given) private sh lock (o .line) h → (p : ℕ) → p ≢ 0
     → private p .stage ≡ 14 → After o private sh p p (row14 suc p (private p) (sh p) lock)
-unfolding row14 stepping
+unfolding stepping
 row14-keeps o i p some e = leaving _ _ _ _ (o .line) _ p i some e

@@ -11,7 +11,7 @@ use Rattle.laws.proofs.Only.{among, included}
 use Rattle.link.specs.Operations.{same, swapped, CLOSED}
 use Rattle.link.specs.declared.Swapped.the-variants as swap
 use Rattle.stage.proofs.Update.{upd-same, upd-other, upd-all, upd-kept}
-use Rattle.stage.specs.Rows.{find, rows, noStep, looksAt, stepped, row1, row2, row3, row4, row5, row6, row7, row8, after9, row9, row10, row11, row12, row14, row15, row16, row17, row18}
+use Rattle.stage.specs.Rows.{find, rows, looksAt, stepped, after9}
 use Rattle.stage.specs.Table.{upd, logged}
 use Rattle.stage.specs.declared.Private.{Private}
 use Rattle.stage.specs.declared.Shared.{Shared}
@@ -124,7 +124,7 @@ module _ (o : Course) {private : ℕ → Private} {sh : ℕ → Shared} {lock : 
               (test (among (private (y .module·) .stage) insides))
 
   pub step-logs : AfterLogs o taken private log p (stepped suc p (private p) (sh (looksAt p (private p))) lock)
-  unfolding looksAt stepped find rows noStep row1 row2 row3 row4 row5 row6 row7 row8 after9 row9 row10 row11 row12 row14 row15 row16 row17 row18 swapped stepping logged
+  unfolding looksAt stepped find rows swapped stepping logged
   step-logs =
       by-stage
       (λ k. private p .stage ≡ k → AfterLogs o taken private log p (find rows k .row suc p (private p) (sh (find rows k .looks p (private p))) lock))

@@ -16,7 +16,7 @@ use Rattle.link.specs.declared.Link.{Link}
 use Rattle.stage.proofs.ByStage.{by-stage}
 use Rattle.stage.proofs.Update.{upd-all}
 use Rattle.stage.specs.Calls.{step}
-use Rattle.stage.specs.Rows.{find, rows, noStep, looksAt, stepped, row1, row2, row3, row4, row5, row6, row7, row8, after9, row9, row10, row11, row12, row14, row15, row16, row17, row18}
+use Rattle.stage.specs.Rows.{find, rows, looksAt, stepped, after9}
 use Rattle.stage.specs.Table.{upd}
 use Rattle.stage.specs.declared.Event.the-variants.{Done, Waiting, Admitted, Joined, Left, Finished, Taken}
 use Rattle.stage.specs.declared.Private.{Private}
@@ -160,7 +160,7 @@ module _ (h : Transcript) {private : ℕ → Private} {sh : ℕ → Shared} {loc
   pub step-remembers :
       let r = stepped suc p (private p) (sh (looksAt p (private p))) lock in
       Remembered ((step p, Answered (r .answer)) ∷ h) (upd private p (r .me))
-  unfolding looksAt stepped find rows noStep row1 row2 row3 row4 row5 row6 row7 row8 after9 row9 row10 row11 row12 row14 row15 row16 row17 row18 swapped
+  unfolding looksAt stepped find rows swapped
       course heard accepted stepping standing unlessSetUp stepIn stands ownSteps stepsNow succeeded leavesNow someone
   step-remembers =
       by-stage (λ k. private p .stage ≡ k → AfterStep (find rows k .row suc p me (sh (find rows k .looks p me)) lock))

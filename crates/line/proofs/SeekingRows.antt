@@ -37,7 +37,7 @@ module _ (o : Course) {private : ℕ → Private} {sh : ℕ → Shared} {lock : 
   )
 
   pub row1-keeps : private p .stage ≡ 1 → After o private sh p p (row1 suc p (private p) (sh p) lock)
-  unfolding row1 stepping changed
+  unfolding stepping changed
   row1-keeps e =
       let s = seeks-at i p 1 e in (
         h,
@@ -51,7 +51,7 @@ module _ (o : Course) {private : ℕ → Private} {sh : ℕ → Shared} {lock : 
       looked 2 e tt p _ (lit≤ tt) tt (record { given = s .given; nil = absurd; locked = absurd; copied = absurd; knows = absurd })
 
   pub row4-keeps : private p .stage ≡ 4 → After o private sh p p (row4 suc p (private p) (sh p) lock)
-  unfolding row4 stepping
+  unfolding stepping
   row4-keeps e =
       let s = seeks-at i p 4 e in (
         h,
@@ -60,7 +60,7 @@ module _ (o : Course) {private : ℕ → Private} {sh : ℕ → Shared} {lock : 
       )
 
   pub row5-keeps : private p .stage ≡ 5 → After o private sh p (private p .prev) (row5 suc p (private p) (sh (private p .prev)) lock)
-  unfolding row5 stepping
+  unfolding stepping
   row5-keeps e =
       let s = seeks-at i p 5 e in
       let x = private p .prev in
@@ -76,7 +76,7 @@ module _ (o : Course) {private : ℕ → Private} {sh : ℕ → Shared} {lock : 
       }))
 
   pub row6-keeps : private p .stage ≡ 6 → After o private sh p (private p .prev) (row6 suc p (private p) (sh (private p .prev)) lock)
-  unfolding row6 stepping
+  unfolding stepping
   row6-keeps e =
       let s = seeks-at i p 6 e in
       let me = private p in
@@ -102,7 +102,7 @@ module _ (o : Course) {private : ℕ → Private} {sh : ℕ → Shared} {lock : 
       })))
 
   pub row7-keeps : private p .stage ≡ 7 → After o private sh p (private p .w .pointer) (row7 suc p (private p) (sh (private p .w .pointer)) lock)
-  unfolding row7 stepping
+  unfolding stepping
   row7-keeps e =
       let s = seeks-at i p 7 e in
       let me = private p in
@@ -119,7 +119,7 @@ module _ (o : Course) {private : ℕ → Private} {sh : ℕ → Shared} {lock : 
       (λ more. looked 7 e tt x _ (lit≤ tt) tt (record { given = s .given; nil = absurd; locked = s .locked; copied = absurd; knows = absurd }))
 
   pub row8-keeps : private p .stage ≡ 8 → After o private sh p p (row8 suc p (private p) (sh p) lock)
-  unfolding row8 stepping changed
+  unfolding stepping changed
   row8-keeps e =
       let s = seeks-at i p 8 e in
       let out = at-out 8 e tt in (
@@ -135,7 +135,7 @@ module _ (o : Course) {private : ℕ → Private} {sh : ℕ → Shared} {lock : 
       )
 
   pub row10-keeps : private p .stage ≡ 10 → After o private sh p (private p .prev) (row10 suc p (private p) (sh (private p .prev)) lock)
-  unfolding row10 stepping
+  unfolding stepping
   row10-keeps e =
       let s = seeks-at i p 10 e in
       let me = private p in
@@ -145,7 +145,7 @@ module _ (o : Course) {private : ℕ → Private} {sh : ℕ → Shared} {lock : 
       (λ more. looked 10 e tt x _ (lit≤ tt) tt (record { given = s .given; nil = absurd; locked = s .locked; copied = absurd; knows = absurd }))
 
   pub row9-fails : private p .stage ≡ 9 → After o private sh p (private p .prev) (after9 (private p) (sh (private p .prev)) lock (Failed (sh (private p .prev) .link)))
-  unfolding after9 stepping
+  unfolding stepping
   row9-fails e =
       let s = seeks-at i p 9 e in
       let x = private p .prev in

@@ -19,7 +19,7 @@ use Rattle.line.proofs.Taking.{row2-keeps}
 
 module _ (o : Course) {private : ℕ → Private} {sh : ℕ → Shared} {lock : ℕ} {h : ℕ} (i : Inv (o .given) private sh lock (o .line) h) (p : ℕ) (some : p ≢ 0) where
   no-step : After o private sh p p (noStep suc p (private p) (sh p) lock)
-  unfolding noStep stepping
+  unfolding stepping
   no-step =
       (h, subst₂ (λ (f : ℕ → Private) (f′ : ℕ → Shared). Inv (o .given) f f′ lock (o .line) h) (sym (upd-kept private p)) (sym (upd-kept sh p)) i)
 

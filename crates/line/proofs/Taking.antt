@@ -60,7 +60,7 @@ module _ (o : Course) {private : ℕ → Private} {sh : ℕ → Shared} {lock : 
       nobody·in q = subst⁻¹ (λ (l : List Place). In q l → ⊥) (free i z .0) (λ a. a)
 
   pub row2-keeps : private p .stage ≡ 2 → After o private sh p p (row2 suc p (private p) (sh p) lock)
-  unfolding row2 stepping join
+  unfolding stepping join
   row2-keeps e =
       choose (After o private sh p p) (eqb lock 0)
       (λ zero. let z = eqb-true lock 0 zero in

@@ -11,7 +11,7 @@ use Rattle.link.specs.Operations.{CLOSED, OPEN, changed, same, swapped}
 use Rattle.link.specs.declared.Link.{Link}
 use Rattle.link.specs.declared.Swapped.{Swapped}
 use Rattle.link.specs.declared.Swapped.the-variants.{Done, Failed}
-use Rattle.stage.specs.Rows.{leaves, goes, withW, withLink, find, rows, noStep, row1, row2, row3, row4, row5, row6, row7, row8, after9, row9, row10, row11, row12, row14, row15, row16, row17, row18}
+use Rattle.stage.specs.Rows.{leaves, goes, withW, withLink, find, rows, after9}
 use Rattle.stage.specs.declared.Event.{Event}
 use Rattle.stage.specs.declared.Event.the-variants as event
 use Rattle.stage.specs.declared.Private.{Private}
@@ -48,7 +48,6 @@ module _ (m : ℕ) where
     Wraps k = find rows k .row (next m) p (wrapPrivate me) (wrapShared its) lock ≡ wrapStepped (find rows k .row suc p me its lock)
 
     after9-wraps : (r : Swapped) → after9 (wrapPrivate me) (wrapShared its) lock (wrapSwapped r) ≡ wrapStepped (after9 me its lock r)
-    unfolding after9
     after9-wraps (Done l) = refl
     after9-wraps (Failed l) = refl
 
@@ -69,7 +68,7 @@ module _ (m : ℕ) where
     relinked k to marked e = ap (λ (l : Link). leaves (goes k (wrapPrivate me)) (withLink l its) lock e) (changed-wraps (its .link) to marked)
 
     pub row-wraps : (k : ℕ) → k ≤ 18 → (k ≡ 9 → Alike) → Wraps k
-    unfolding find rows noStep row1 row2 row3 row4 row5 row6 row7 row8 row9 row10 row11 row12 row14 row15 row16 row17 row18
+    unfolding find rows
     row-wraps =
         by-stage (λ k. (k ≡ 9 → Alike) → Wraps k)
         (λ _. refl)

@@ -7,7 +7,7 @@ use Rattle.laws.proofs.Cases.{choose}
 use Rattle.link.specs.Operations.{same, swapped}
 use Rattle.link.specs.declared.Swapped.{Swapped}
 use Rattle.stage.specs.Answers.{answerOf}
-use Rattle.stage.specs.Rows.{leaves, find, rows, noStep, stepped, row1, row2, row3, row4, row5, row6, row7, row8, after9, row9, row10, row11, row12, row14, row15, row16, row17, row18}
+use Rattle.stage.specs.Rows.{leaves, find, rows, stepped, after9}
 use Rattle.stage.specs.declared.Answer.{Answer}
 use Rattle.stage.specs.declared.Event.{Event}
 use Rattle.stage.specs.declared.Event.the-variants.{Done, Waiting, Admitted, Joined, Left, Finished, Taken}
@@ -36,7 +36,7 @@ module _ (bump : ℕ → ℕ) (p : ℕ) (me : Private) (its : Shared) (lock : �
   says me′ its′ lock′ e z = record { number = refl; itself = z }
 
   pub agrees : me .stage ≤ 18 → Agrees p (stepped bump p me its lock)
-  unfolding stepped find rows noStep row1 row2 row3 row4 row5 row6 row7 row8 after9 row9 row10 row11 row12 row14 row15 row16 row17 row18 swapped
+  unfolding stepped find rows swapped
   agrees known =
       by-stage (λ k. Agrees p (find rows k .row bump p me its lock))
       (says _ _ _ Done tt)

@@ -11,7 +11,7 @@ use Rattle.laws.proofs.Cases.{choose, test, both-hold, both-are}
 use Rattle.link.specs.Operations.{CLOSED, same, changed, swapped}
 use Rattle.link.specs.declared.Swapped.{Swapped}
 use Rattle.stage.specs.Calls.{within, capacity}
-use Rattle.stage.specs.Rows.{leaves, goes, withW, stepped, find, rows, noStep, row1, row2, row3, row4, row5, row6, row7, row8, after9, row9, row10, row11, row12, row14, row15, row16, row17, row18}
+use Rattle.stage.specs.Rows.{leaves, goes, withW, stepped, find, rows, after9}
 use Rattle.stage.specs.Sound.{at, soundLink, soundOwn, soundStage, soundPrivate, soundShared}
 use Rattle.stage.proofs.ByStage.{by-stage}
 use Rattle.stage.specs.declared.Event.{Event}
@@ -105,7 +105,7 @@ shared-tests n its s = both-are (both-are (le-leb _ _ (s .pointer)) (le-leb _ _ 
 
 module _ (n p : ℕ) (known : p ≤ n) (me : Private) (its : Shared) (lock : ℕ) (sound : SoundMe n me) (sound′ : SoundIts n its) (below : lock ≤ n) (bump : ℕ → ℕ) where
   rows-sound : (k : ℕ) → k ≤ 18 → me .stage ≡ k → SoundStepped n (find rows k .row bump p me its lock)
-  unfolding find rows noStep row1 row2 row3 row4 row5 row6 row7 row8 after9 row9 row10 row11 row12 row14 row15 row16 row17 row18 swapped changed
+  unfolding find rows swapped changed
   rows-sound =
       by-stage (λ k. me .stage ≡ k → SoundStepped n (find rows k .row bump p me its lock))
       (λ e. still Done)

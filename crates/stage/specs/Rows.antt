@@ -66,99 +66,99 @@ abbrev pub Row : Type 0
 Row = (ℕ → ℕ) → ℕ → Private → Shared → ℕ → Stepped
 
 -- 1: own link's pointer := nil, mark stays; 2
-unfoldable pub row1 : Row
+abbrev pub row1 : Row
 row1 bump p me its lock = leaves (goes 2 me) (withLink (pointed bump (its .link) 0) its) lock Done
 
 -- 2: lock word 0: it becomes this module; 3
 --    else prev := lock word; 4
-unfoldable pub row2 : Row
+abbrev pub row2 : Row
 row2 bump p me its lock =
     cond (eqb lock 0)
     (leaves (goes 3 me) its p Joined)
     (leaves (goes 4 (withPrev lock me)) its lock Done)
 
 -- 3: open own link, log admission; 13
-unfoldable pub row3 : Row
+abbrev pub row3 : Row
 row3 bump p me its lock = leaves (goes 13 me) (withLink (opened bump (its .link)) its) lock (Admitted p)
 
 -- 4: own Locked := 1; 5
-unfoldable pub row4 : Row
+abbrev pub row4 : Row
 row4 bump p me its lock = leaves (goes 5 me) (withLocked 1 its) lock Done
 
 -- 5: w := prev's link. Closed; 1
 --    open; 6
-unfoldable pub row5 : Row
+abbrev pub row5 : Row
 row5 bump p me its lock = leaves (goes (cond (eqb (its .link .mark) CLOSED) 1 6) (withW (its .link) me)) its lock Done
 
 -- 6: prev's record priority below own; 1
 --    else w's pointer nil; 8
 --    else; 7
-unfoldable pub row6 : Row
+abbrev pub row6 : Row
 row6 bump p me its lock =
     leaves (goes (cond (ltb (its .priority) (me .own)) 1 (cond (eqb (me .w .pointer) 0) 8 7)) me) its lock Done
 
 -- 7: record priority of w's pointer below own; 8
 --    else prev := w's pointer; 5
-unfoldable pub row7 : Row
+abbrev pub row7 : Row
 row7 bump p me its lock =
     cond (ltb (its .priority) (me .own))
     (leaves (goes 8 me) its lock Done)
     (leaves (goes 5 (withPrev (me .w .pointer) me)) its lock Done)
 
 -- 8: own link's pointer := w's pointer, mark stays; 9
-unfoldable pub row8 : Row
+abbrev pub row8 : Row
 row8 bump p me its lock = leaves (goes 9 me) (withLink (pointed bump (its .link) (me .w .pointer)) its) lock Done
 
 -- 9: swap prev's link, expecting w, to this module; 11
 --    failed: w := found. Closed; 1
 --    failed and open; 10
-unfoldable pub after9 : Private → Shared → ℕ → Swapped → Stepped
+abbrev pub after9 : Private → Shared → ℕ → Swapped → Stepped
 after9 me its lock (swap.Done l) = leaves (goes 11 me) (withLink l its) lock Joined
 after9 me its lock (swap.Failed found) = leaves (goes (cond (eqb (found .mark) CLOSED) 1 10) (withW found me)) its lock Done
 
-unfoldable pub row9 : Row
+abbrev pub row9 : Row
 row9 bump p me its lock = after9 me its lock (swapped bump (its .link) (me .w) p)
 
 -- 10: prev's record priority below own; 1
 --     else; 5
-unfoldable pub row10 : Row
+abbrev pub row10 : Row
 row10 bump p me its lock = leaves (goes (cond (ltb (its .priority) (me .own)) 1 5) me) its lock Done
 
 -- 11: open own link; 12
-unfoldable pub row11 : Row
+abbrev pub row11 : Row
 row11 bump p me its lock = leaves (goes 12 me) (withLink (opened bump (its .link)) its) lock Done
 
 -- 12: own Locked is 1: nothing changes; 12
 --     is 0: log admission; 13
-unfoldable pub row12 : Row
+abbrev pub row12 : Row
 row12 bump p me its lock = cond (eqb (its .locked) 0) (leaves (goes 13 me) its lock (Admitted p)) (leaves me its lock Waiting)
 
 -- 14: close own link; 15
-unfoldable pub row14 : Row
+abbrev pub row14 : Row
 row14 bump p me its lock = leaves (goes 15 me) (withLink (closed bump (its .link)) its) lock Left
 
 -- 15: s := own link's pointer; 16
-unfoldable pub row15 : Row
+abbrev pub row15 : Row
 row15 bump p me its lock = leaves (goes 16 (withS (its .link .pointer) me)) its lock Done
 
 -- 16: lock word := s. If s is nil, own priority := 0; 0
 --     else; 17
-unfoldable pub row16 : Row
+abbrev pub row16 : Row
 row16 bump p me its lock =
     cond (eqb (me .s) 0)
     (leaves (goes 0 (withOwn 0 me)) its (me .s) Finished)
     (leaves (goes 17 me) its (me .s) Done)
 
 -- 17: record priority of s := 255; 18
-unfoldable pub row17 : Row
+abbrev pub row17 : Row
 row17 bump p me its lock = leaves (goes 18 me) (withPriority 255 its) lock Done
 
 -- 18: Locked of s := 0; own priority := 0; 0
-unfoldable pub row18 : Row
+abbrev pub row18 : Row
 row18 bump p me its lock = leaves (goes 0 (withOwn 0 me)) (withLocked 0 its) lock Finished
 
 -- 0: idle, no step. 13: inside, no step. A call there is refused; nothing changes.
-unfoldable pub noStep : Row
+abbrev pub noStep : Row
 noStep bump p me its lock = leaves me its lock Done
 
 -- the table: each stage's number, whose shared part its row looks at (the rows on the lock word, and on nothing, look at no other's), and its row

@@ -2,13 +2,13 @@
 -- Assumes nothing.
 use mathlib.Core.Path.{_∙_, sym}
 use borrow.Author.Needs.{needs}
-use Rattle.stage.specs.Rows.{find, rows, row1, row2, row3, row4, row5, row6, row7, row8, after9, row9, row10, row11, row12, row14, row15, row16, row17, row18, noStep}
+use Rattle.stage.specs.Rows.{find, rows}
 use Rattle.stage.proofs.AtStage.{tests, past-the-table}
 use Rattle.stage.proofs.step.Statement.{statement}
 use Rattle.stage.proofs.step.Tie as tie
 
 pub step-spec : {M : Type 1} → statement M
-unfolding find rows row1 row2 row3 row4 row5 row6 row7 row8 after9 row9 row10 row11 row12 row14 row15 row16 row17 row18 noStep
+unfolding find rows
 step-spec =
     tie.close
     (tie.spec
