@@ -1,5 +1,5 @@
 -- The bench table. Document 01, "Bench table": B1 to B10, each told as a run of calls on an image, with what is to be seen on the way, in its order
--- and with its figures. The calls are those of the public contracts: `reply` and `image`, on bytes.
+-- and with its figures, B1 and B7 as document 02, R-1, has them. The calls are those of the public contracts: `reply` and `image`, on bytes.
 use Prim.Native.Nat.{ℕ, zero, suc, _+_}
 use mathlib.Core.Path.{_≡_}
 use mathlib.Core.Bool.{Bool, true, false, cond, _&&_}
@@ -10,6 +10,7 @@ use Rattle.link.specs.Count.{next, size}
 use Rattle.link.specs.Operations.{OPEN, CLOSED, opened}
 use Rattle.link.specs.declared.Link.{Link}
 use Rattle.stage.specs.Calls.{Call, setUp, beginAcquisition, beginRelease, step, within}
+use Rattle.stage.specs.Rows as Rows
 use Rattle.stage.specs.Rows.{withLink}
 use Rattle.stage.specs.Table.{Table, upd}
 use Rattle.stage.specs.declared.Event.{Event}
@@ -98,12 +99,13 @@ equal [] (y ∷ ys) = false
 equal (x ∷ xs) [] = false
 equal (x ∷ xs) (y ∷ ys) = eqb x y && equal xs ys
 
--- What a run tells: a call; what is to be seen, with its figures; and for B9, since no run here makes 65,535 changes, that the count of p's link
--- is made k in the image.
+-- What a run tells: a call; what is to be seen, with its figures; for B9, since no run here makes 65,535 changes, that the count of p's link
+-- is made k in the image; and for an image that today's calls do not leave, that p's stage is made k.
 pub data Told : Type 0 where
   call : Call → Told
   see : Sight → List ℕ → Told
   counts : ℕ → ℕ → Told
+  stages : ℕ → ℕ → Told
 
 unfoldable pub counting : ℕ → ℕ → Table → Table
 counting p k t =
@@ -115,12 +117,17 @@ counting p k t =
       log = t .log;
     }
 
+unfoldable pub staging : ℕ → ℕ → Table → Table
+staging p k t =
+    record { n = t .n; private = upd (t .private) p (Rows.goes k (t .private p)); shared = t .shared; lock = t .lock; log = t .log }
+
 -- all that is to be seen is seen, on the image b, the last call having said r
 unfoldable pub meets : List Told → Reply → List ℕ → Bool
 meets [] r b = true
 meets (call c ∷ others) r b = meets others (reply c b) (image c b)
 meets (see x expected ∷ others) r b = equal (figures x r b) expected && meets others r b
 meets (counts p k ∷ others) r b = meets others r (put (counting p k (read b)) b)
+meets (stages p k ∷ others) r b = meets others r (put (staging p k (read b)) b)
 
 -- The words of the rows.
 abbrev pub begins : ℕ → ℕ → List Told
@@ -145,11 +152,11 @@ unfoldable pub throughout : Sight → List ℕ → List Told → List Told
 throughout x expected [] = see x expected ∷ []
 throughout x expected (t ∷ others) = see x expected ∷ t ∷ throughout x expected others
 
--- "module 1, priority 10: after 3 steps inside, link (nil, open, 2), lock 1"
+-- "module 1, priority 10: after 3 steps inside, link (nil, open, 2), lock 1"; R-1: "B1 takes 4 steps"
 unfoldable pub B1 : List Told
 B1 =
     begins 1 10
-    ++ steps 1 3
+    ++ steps 1 4
     ++ see answer (2 ∷ 1 ∷ [])
     ∷ see inside (1 ∷ [])
     ∷ see (link 1) (nil ∷ OPEN ∷ 2 ∷ [])
@@ -219,9 +226,25 @@ B6 =
     ++ see (prev 2) (3 ∷ [])
     ∷ []
 
--- "after B1, module 3 with priority 20 goes 1, 2, 4, 5, 6 and back to 1, while 1 stays inside"
+-- "after B1, module 3 with priority 20 goes 1, 2, 4, 5, 6 and .." by R-1 "joins", "while 1 stays inside"
 unfoldable pub B7 : List Told
-B7 = B1 ++ begins 3 20 ++ throughout inside (1 ∷ []) (goes 3 (1 ∷ 2 ∷ 4 ∷ 5 ∷ 6 ∷ 1 ∷ []))
+B7 =
+    B1
+    ++ begins 3 20
+    ++ throughout inside (1 ∷ []) (goes 3 (1 ∷ 2 ∷ 4 ∷ 5 ∷ 6 ∷ 8 ∷ 9 ∷ 11 ∷ 12 ∷ []))
+    ++ see line (1 ∷ 3 ∷ [])
+    ∷ []
+
+-- An image begun before R-1, in which module 1 went from 2 to 3 and its record was not raised, goes on as 01 has B7: ".. and back to 1".
+unfoldable pub B7-before : List Told
+B7-before =
+    begins 1 10
+    ++ goes 1 (1 ∷ 2 ∷ 19 ∷ [])
+    ++ stages 1 3
+    ∷ steps 1 1
+    ++ see answer (2 ∷ 1 ∷ [])
+    ∷ begins 3 20
+    ++ throughout inside (1 ∷ []) (goes 3 (1 ∷ 2 ∷ 4 ∷ 5 ∷ 6 ∷ 1 ∷ []))
 
 -- "after B1, equal priorities: 2 then 3, both 5, stand 1, 2, 3"
 unfoldable pub B8 : List Told
@@ -239,7 +262,7 @@ unfoldable pub B9 : List Told
 B9 =
     see (opening nil CLOSED 65535) (nil ∷ OPEN ∷ 0 ∷ [])
     ∷ begins 1 10
-    ++ goes 1 (1 ∷ 2 ∷ 3 ∷ [])
+    ++ goes 1 (1 ∷ 2 ∷ 19 ∷ 3 ∷ [])
     ++ counts 1 65535
     ∷ see (link 1) (nil ∷ CLOSED ∷ 65535 ∷ [])
     ∷ steps 1 1
@@ -252,7 +275,7 @@ B10 = begins 1 10 ++ call (beginAcquisition 1 10) ∷ see refusal (4 ∷ []) ∷
 
 -- "B1 to B10 are the proved ones."
 unfoldable pub table : List (List Told)
-table = B1 ∷ B2 ∷ B3 ∷ B4 ∷ B5 ∷ B6 ∷ B7 ∷ B8 ∷ B9 ∷ B10 ∷ []
+table = B1 ∷ B2 ∷ B3 ∷ B4 ∷ B5 ∷ B6 ∷ B7 ∷ B7-before ∷ B8 ∷ B9 ∷ B10 ∷ []
 
 -- "All start fresh, n = 3": set up in a buffer that held other bytes, with three of an owner's in front
 abbrev pub owner : List ℕ

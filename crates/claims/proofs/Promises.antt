@@ -1,7 +1,7 @@
 -- The promises of specs/Claims.antt. Assumes nothing.
 use Prim.Native.Nat.{ℕ, _≤_, _<_}
-use mathlib.Core.Path.{_≡_, refl, sym, ap, subst⁻¹, subst₂, subst₃}
-use mathlib.Core.Bool.{true, cond}
+use mathlib.Core.Path.{_≡_, refl, ap, subst⁻¹}
+use mathlib.Core.Bool.{Bool, true, cond}
 use mathlib.Core.List.{List, [], _∷_}
 use borrow.Author.Tests.{le-leb}
 use lib.Dec.{leb, lit<}
@@ -15,14 +15,16 @@ use Rattle.layout.specs.Layout.{lengthFor, recordAt, privateAt, sharedAt, read}
 use Rattle.soundness.specs.SoundImage.{sound}
 use Rattle.image.proofs.Sound as Sound
 use Rattle.image.specs.Call.{refused, image}
-use Rattle.line.proofs.Consequences.{modular-corollaries}
-use Rattle.line.proofs.Modular.{modular}
-use Rattle.line.specs.Corollaries.{Corollaries}
-use Rattle.line.specs.Demand3.{Premise, Holds}
-use Rattle.line.specs.History.{Desk, machine, course, state, table, transcript, taken, takes}
-use Rattle.claims.proofs.Alike.{premise}
+use Rattle.line.proofs.Alike.{demand3-alike, relied-alike, let-in-alike}
+use Rattle.line.proofs.Consequences.{mixed-corollaries, modular-corollaries}
+use Rattle.line.proofs.LettingIn.{modular-lets-in}
+use Rattle.line.proofs.Modular.{mixed-holds, modular}
+use Rattle.line.specs.Corollaries as Corollaries
+use Rattle.line.specs.Demand3.{Demand3}
+use Rattle.line.specs.History.{Desk, machine, state, table}
+use Rattle.line.specs.LetIn as R1
 use Rattle.claims.proofs.Images.{Shows, fresh-held, put-shows, says-is, leaves-is}
-use Rattle.claims.specs.Claims.{images, DeckLock, Relied, StaysSound}
+use Rattle.claims.specs.Claims.{images, DeckLock, Relied, LetIn, MixedDesks, StaysSound}
 
 -- what is read is what an image can hold
 reading : (b : List ℕ) → sound b ≡ true → Held (read b)
@@ -39,13 +41,19 @@ stays-sound c b is =
     let left = leaves-is (length b) b (read b) (record { is = is; length-is = refl; table = refl; held = reading b is }) c in
     (left .is, left .length-is)
 
+two : 1 < size
+two = lit< tt
+
 -- Every history on a fresh image is the machine's, on a fresh table.
 module _ (n : ℕ) (b : List ℕ) (some : 1 ≤ n) (few : n ≤ 64) (room : lengthFor n ≤ length b) where
   abbrev start : List ℕ
   start = image (setUp n) b
 
+  abbrev fits : ℕ → Bool
+  fits k = leb (lengthFor k) (length b)
+
   abbrev tables : Desk
-  tables = machine (next size) (λ k. leb (lengthFor k) (length b))
+  tables = machine (next size) fits
 
   start-shows : Shows (length b) start (freshTable n)
   unfolding image refused refusals refusing after freshTable
@@ -64,34 +72,23 @@ module _ (n : ℕ) (b : List ℕ) (some : 1 ≤ n) (few : n ≤ 64) (room : leng
   same-table : (cs : List Call) → table images start cs ≡ table tables (freshTable n) cs
   same-table cs = shows cs .table
 
-  same-heard : (cs : List Call) → transcript images start cs ≡ transcript tables (freshTable n) cs
-  unfolding transcript
-  same-heard [] = refl
-  same-heard (c ∷ cs) = λ i. (c, says c cs i) ∷ same-heard cs i
+  deck-lock-from : Demand3 images start size
+  deck-lock-from = demand3-alike images tables start (freshTable n) same-table says size (modular size two fits n)
 
-  same-taken : (cs : List Call) → taken images start cs ≡ taken tables (freshTable n) cs
-  unfolding taken
-  same-taken [] = refl
-  same-taken (c ∷ cs) = λ i. takes c (says c cs i) (same-table cs i .log) (same-taken cs i)
+  relied-from : Corollaries.Relied images start size
+  relied-from = relied-alike images tables start (freshTable n) same-table says size (modular-corollaries size two fits n)
 
-  abbrev of-tables : (cs : List Call) → Premise images start size cs → Premise tables (freshTable n) size cs
-  of-tables = premise images tables start (freshTable n) same-table size
-
-  two : 1 < size
-  two = lit< tt
-
-  holds : (cs : List Call) → Premise images start size cs → Holds (table images start cs) (course (transcript images start cs)) (taken images start cs)
-  holds cs z =
-      subst₃ Holds (sym (same-table cs)) (sym (ap course (same-heard cs))) (sym (same-taken cs))
-      (modular size two (λ k. leb (lengthFor k) (length b)) n cs (of-tables cs z))
-
-  relied-on : (cs : List Call) → Premise images start size cs → Corollaries (transcript images start cs) (table images start cs)
-  relied-on cs z =
-      subst₂ Corollaries (sym (same-heard cs)) (sym (same-table cs))
-      (modular-corollaries size two (λ k. leb (lengthFor k) (length b)) n cs (of-tables cs z))
+  let-in-from : R1.LetIn images start size
+  let-in-from = let-in-alike images tables start (freshTable n) same-table says size (modular-lets-in size two fits n)
 
 pub deck-lock : DeckLock
-deck-lock = holds
+deck-lock = deck-lock-from
 
 pub relied : Relied
-relied = relied-on
+relied = relied-from
+
+pub let-in : LetIn
+let-in = let-in-from
+
+pub mixed-desks : MixedDesks
+mixed-desks before fits n = (mixed-holds size two fits before n, mixed-corollaries size two fits before n)

@@ -1,17 +1,20 @@
 -- What the deck lock promises of images: the words that the contracts of the five calls cite, held against demand 3 of the minutes, item 4.
 use Prim.Native.Nat.{ℕ, _≤_}
 use mathlib.Core.Path.{_≡_}
-use mathlib.Core.Bool.{true}
+use mathlib.Core.Bool.{Bool, true}
 use mathlib.Core.List.{List}
 use lib.ListN.{length}
-use Rattle.link.specs.Count.{size}
+use Rattle.link.specs.Count.{next, size}
 use Rattle.stage.specs.Calls.{Call, setUp}
+use Rattle.stage.specs.Table.{freshTable}
 use Rattle.layout.specs.Layout.{lengthFor, read}
 use Rattle.soundness.specs.SoundImage.{sound}
 use Rattle.image.specs.Call.{reply, image}
-use Rattle.line.specs.History.{Desk, table, transcript}
-use Rattle.line.specs.Demand3.{Premise, Demand3}
-use Rattle.line.specs.Corollaries.{Corollaries}
+use Rattle.line.specs.History.{Desk}
+use Rattle.line.specs.Demand3.{Demand3}
+use Rattle.line.specs.Corollaries as Corollaries
+use Rattle.line.specs.LetIn as R1
+use Rattle.line.specs.LetIn.{mixed}
 
 -- Images as a desk: a state is a buffer with an image at its end.
 abbrev pub images : Desk
@@ -27,7 +30,18 @@ DeckLock = OfFresh (λ b. Demand3 images b size)
 
 -- What users rely on besides, of the same histories.
 abbrev pub Relied : Type 0
-Relied = OfFresh (λ b. (cs : List Call) → Premise images b size cs → Corollaries (transcript images b cs) (table images b cs))
+Relied = OfFresh (λ b. Corollaries.Relied images b size)
+
+-- R-1: "a step at stage 6 that looks at a module inside never returns to stage 1, in demand 3's histories begun under this rule".
+abbrev pub LetIn : Type 0
+LetIn = OfFresh (λ b. R1.LetIn images b size)
+
+-- What stands of a table that desks of before R-1 work on too, whichever call is whose: demand 3, and what users rely on besides. (It is said of tables,
+-- which images show. That R-1's addition does not stand there is a row of the bench table, B7-before.)
+abbrev pub MixedDesks : Type 0
+MixedDesks =
+    (before : ℕ → Bool) (fits : ℕ → Bool) (n : ℕ)
+    → Demand3 (mixed before (next size) fits) (0, freshTable n) size × Corollaries.Relied (mixed before (next size) fits) (0, freshTable n) size
 
 -- Every call, refused or accepted, with whatever numbers, leaves a sound image sound, reached or not, and the buffer as long as it was.
 abbrev pub StaysSound : Type 0

@@ -5,17 +5,19 @@ use mathlib.Core.Path.{_≡_, sym, _∙_, ap, subst, subst⁻¹, subst₂, trans
 use mathlib.Core.Bool.{Bool}
 use mathlib.Core.List.{List, [], _∷_}
 use Rattle.link.specs.Count.{next}
-use Rattle.stage.proofs.Refusing.{refused-or}
 use Rattle.stage.proofs.Update.{upd-all}
-use Rattle.stage.specs.Calls.{Call, setUp, beginAcquisition, beginRelease, step, takeLog, refusals, answered, after, called}
+use Rattle.stage.specs.Calls.{Call, setUp, beginAcquisition, beginRelease, step, takeLog, answered, after}
 use Rattle.stage.specs.Table.{Table, upd, idle, freshTable, begunAcquisition, begunRelease, stepOf, afterStep, logTaken}
 use Rattle.stage.specs.declared.Private.{Private}
 use Rattle.stage.specs.declared.Reply.{Reply}
 use Rattle.stage.specs.declared.Reply.the-variants.{Answered}
-use Rattle.line.specs.Corollaries.{OneOf, stepIn, stands, unlessSetUp, standing, stepsNow, ownSteps, leavesNow, succeeded, Corollaries}
-use Rattle.line.specs.Demand3.{Found, Premise}
-use Rattle.line.specs.History.{Transcript, start, course, heard, accepted, machine, state, transcript}
+use Rattle.line.specs.Corollaries.{OneOf, stepIn, stands, unlessSetUp, standing, stepsNow, ownSteps, leavesNow, succeeded, Corollaries, Relied}
+use Rattle.line.specs.Demand3.{Found}
+use Rattle.line.specs.History.{Desk, Transcript, start, course, heard, accepted, machine, state, table, transcript}
+use Rattle.line.specs.LetIn.{unraised, mixed}
 use Rattle.line.specs.PlainLine.{modules}
+use Rattle.line.proofs.Alike.{never, today, says-today, relied-alike}
+use Rattle.line.proofs.Desks.{by-desk}
 use Rattle.line.proofs.Holding.{kept-holds}
 use Rattle.line.proofs.Ideal.{Kept, ideal-kept}
 use Rattle.line.proofs.Joiners.{none-stood, under}
@@ -41,13 +43,25 @@ accepted-remembers (beginRelease p) h t kept m = record { stood = m .stood; rele
 accepted-remembers (step p) h t kept m = step-remembers h (kept .inv) m p
 accepted-remembers (takeLog room) h t kept m = record { stood = m .stood; released = m .released; latest = tt }
 
-remembered : (fits : ℕ → Bool) (n : ℕ) (cs : List Call) → Remembered (transcript (machine suc fits) (freshTable n) cs) (state (machine suc fits) (freshTable n) cs .private)
-unfolding transcript state called course heard standing unlessSetUp stepIn stands ownSteps stepsNow succeeded leavesNow freshTable idle start
-remembered fits n [] = record { stood = none-stood; released = λ q. absurd; latest = tt }
-remembered fits n (c ∷ cs) =
-    let m = remembered fits n cs in
-    refused-or (λ (r : Reply × Table). Remembered ((c, r .0) ∷ transcript (machine suc fits) (freshTable n) cs) (r .1 .private)) (refusals suc fits c _) _ _
-    (λ k. record { stood = m .stood; released = m .released; latest = tt }) (λ _. accepted-remembers c _ _ (ideal-kept fits n cs) m)
+-- a module that a desk of before R-1 takes past stage 19
+unraised-remembered : (h : Transcript) (t : Table) (p : ℕ) → Remembered h (t .private) → Remembered h (unraised p t .private)
+unfolding unraised
+unraised-remembered h t p m = record { stood = m .stood; released = begins h (t .private) m p _ tt; latest = m .latest }
+
+module _ (fits : ℕ → Bool) (before : ℕ → Bool) (n : ℕ) where
+  abbrev Ideal : Desk
+  Ideal = mixed before suc fits
+
+  remembered : (cs : List Call) → Remembered (transcript Ideal (0, freshTable n) cs) (table Ideal (0, freshTable n) cs .private)
+  unfolding transcript state course heard standing unlessSetUp stepIn stands ownSteps stepsNow succeeded leavesNow freshTable idle start
+  remembered [] = record { stood = none-stood; released = λ q. absurd; latest = tt }
+  remembered (c ∷ cs) =
+      let m = remembered cs in
+      by-desk suc fits c _ (λ (r : Reply × Table). Remembered ((c, r .0) ∷ transcript Ideal (0, freshTable n) cs) (r .1 .private))
+      (λ k. record { stood = m .stood; released = m .released; latest = tt })
+      (λ _. accepted-remembers c _ _ (ideal-kept fits before n cs) m)
+      (λ p r t′ e z. unraised-remembered ((c, r) ∷ transcript Ideal (0, freshTable n) cs) t′ p z)
+      _
 
 corollaries : {h : Transcript} {taken : List ℕ} {t : Table} → Kept (course h) taken t → Remembered h (t .private) → Corollaries h t
 unfolding stepIn
@@ -65,10 +79,6 @@ corollaries {h} {t = t} kept m =
     line : (l : List ℕ) → Found t l → modules (course h .line) ≡ l
     line l f = found-one t _ l (kept-holds kept .found) f
 
-pub ideal-corollaries : (fits : ℕ → Bool) (n : ℕ) (cs : List Call)
-    → Corollaries (transcript (machine suc fits) (freshTable n) cs) (state (machine suc fits) (freshTable n) cs)
-ideal-corollaries fits n cs = corollaries (ideal-kept fits n cs) (remembered fits n cs)
-
 -- the counts are not spoken of
 corollaries-wrap : (m : ℕ) {h : Transcript} {t : Table} → Corollaries h t → Corollaries h (wrap m t)
 corollaries-wrap m {t = t} c =
@@ -84,8 +94,14 @@ corollaries-wrap m {t = t} c =
     back : (l : List ℕ) → Found (wrap m t) l → Found t l
     back l = transport (found-wraps t m l)
 
-pub modular-corollaries : (m : ℕ) → 1 < m → (fits : ℕ → Bool) (n : ℕ) (cs : List Call) → Premise (machine (next m) fits) (freshTable n) m cs
-    → Corollaries (transcript (machine (next m) fits) (freshTable n) cs) (state (machine (next m) fits) (freshTable n) cs)
-modular-corollaries m two fits n cs z =
-    let f = follows m two fits n cs z in
-    subst₂ Corollaries (sym (f .heard)) (sym (f .table)) (corollaries-wrap m (ideal-corollaries fits n cs))
+module _ (m : ℕ) (two : 1 < m) (fits : ℕ → Bool) where
+  pub mixed-corollaries : (before : ℕ → Bool) (n : ℕ) → Relied (mixed before (next m) fits) (0, freshTable n) m
+  mixed-corollaries before n cs z =
+      let f = follows m two fits before n cs z in
+      subst₂ Corollaries (sym (f .heard)) (sym (ap (λ (s : ℕ × Table). s .1) (f .same-state)))
+      (corollaries-wrap m (corollaries (ideal-kept fits before n cs) (remembered fits before n cs)))
+
+  pub modular-corollaries : (n : ℕ) → Relied (machine (next m) fits) (freshTable n) m
+  modular-corollaries n =
+      relied-alike (machine (next m) fits) (mixed never (next m) fits) (freshTable n) (0, freshTable n) (today (next m) fits n) (says-today (next m) fits n) m
+      (mixed-corollaries never n)

@@ -16,7 +16,7 @@ use Rattle.link.specs.declared.Link.{Link}
 use Rattle.link.specs.declared.Swapped.{Swapped}
 use Rattle.stage.proofs.Update.{upd-all, upd-kept}
 use Rattle.stage.specs.Calls.{Call, setUp, beginAcquisition, beginRelease, step, takeLog, after}
-use Rattle.stage.specs.Rows.{find, rows, looksAt, stepped, after9}
+use Rattle.stage.specs.Rows.{find, rows, looked, looksAt, stepped, after9, last}
 use Rattle.stage.specs.Table.{Table, upd, begunAcquisition, begunRelease, stepOf, afterStep, logTaken}
 use Rattle.stage.specs.declared.Private.{Private}
 use Rattle.stage.specs.declared.Shared.{Shared}
@@ -36,7 +36,7 @@ module _ (p : ℕ) (me : Private) (its : Shared) (lock : ℕ) where
   abbrev row : ℕ → Stepped
   row k = find rows k .row suc p me its lock
 
-  one-on : (k : ℕ) → k ≤ 18 → OneOn (its .link) (row k .its .link)
+  one-on : (k : ℕ) → k ≤ last → OneOn (its .link) (row k .its .link)
   unfolding find rows swapped changed
   one-on =
       by-stage (λ k. OneOn (its .link) (row k .its .link))
@@ -59,6 +59,7 @@ module _ (p : ℕ) (me : Private) (its : Shared) (lock : ℕ) where
       (choose (λ (r : Stepped). OneOn (its .link) (r .its .link)) (eqb (me .s) 0) (λ _. inl refl) (λ _. inl refl))
       (inl refl)
       (inl refl)
+      (inl refl)
 
   -- whoever is between a reading and its swap after its step has just read, or was so before
   abbrev Reads : ℕ → Stepped → Type 0
@@ -66,7 +67,7 @@ module _ (p : ℕ) (me : Private) (its : Shared) (lock : ℕ) where
       T (among (r .me .stage) readers)
       → (r .me .prev ≡ me .prev) × (((k ≡ 5) × (r .me .w ≡ its .link) × (r .its ≡ its)) ⊎ ((k ≢ 5) × T (among k readers) × (r .me .w ≡ me .w)))
 
-  reads-on : (k : ℕ) → k ≤ 18 → me .stage ≡ k → Reads k (row k)
+  reads-on : (k : ℕ) → k ≤ last → me .stage ≡ k → Reads k (row k)
   unfolding find rows swapped
   reads-on =
       by-stage (λ k. me .stage ≡ k → Reads k (row k))
@@ -87,6 +88,7 @@ module _ (p : ℕ) (me : Private) (its : Shared) (lock : ℕ) where
       (λ e. absurd)
       (λ e. absurd)
       (λ e. choose (Reads 16) (eqb (me .s) 0) (λ _. absurd) (λ _. absurd))
+      (λ e. absurd)
       (λ e. absurd)
       (λ e. absurd)
     where
@@ -127,7 +129,7 @@ Ongoing (beginRelease p) = Unit {0}
 Ongoing (step p) = Unit {0}
 Ongoing (takeLog room) = Unit {0}
 
-module _ (t : Table) (known : (p : ℕ) → t .private p .stage ≤ 18) where
+module _ (t : Table) (known : (p : ℕ) → t .private p .stage ≤ last) where
   pub links-on : (c : Call) → Ongoing c → (x : ℕ) → OneOn (t .shared x .link) (after suc c t .shared x .link)
   unfolding after begunAcquisition begunRelease stepOf stepped afterStep logTaken
   links-on (setUp k) z x = absurd z
@@ -144,7 +146,7 @@ module _ (t : Table) (known : (p : ℕ) → t .private p .stage ≤ 18) where
 
   just-read : (p : ℕ) → t .private p .stage ≡ 5 → (reads p (step p) t ≡ true) × (looksAt p (t .private p) ≡ t .private p .prev)
   unfolding reads looksAt find rows
-  just-read p e = (simp (eq-eqb p p refl, eq-eqb (t .private p .stage) 5 e), ap (λ (k : ℕ). find rows k .looks p (t .private p)) e)
+  just-read p e = (simp (eq-eqb p p refl, eq-eqb (t .private p .stage) 5 e), ap (λ (k : ℕ). looked (find rows k .looks) p (t .private p)) e)
 
   pub still : (c : Call) → Ongoing c → (q : ℕ) → Still c t (after suc c t) q
   unfolding after begunAcquisition begunRelease stepOf stepped afterStep logTaken

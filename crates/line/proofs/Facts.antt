@@ -6,6 +6,7 @@ use mathlib.Core.Logic.{_≢_, _⊎_, inl, inr, ⊎-elim}
 use lib.Dec.{T}
 use native.Mathlib.Omega.{arith}
 use Rattle.laws.proofs.Only.{among, disjoint, included, either}
+use Rattle.stage.specs.Rows.{last}
 use Rattle.stage.specs.declared.Private.{Private}
 use Rattle.stage.specs.declared.Shared.{Shared}
 use Rattle.line.specs.PlainLine.{Place}
@@ -14,11 +15,11 @@ use Rattle.line.proofs.Invariant.{Stands, Seeks, Holder, Inv, outs, see
 use Rattle.line.proofs.Places.{In, head}
 
 -- a module is away from the line, in it, or leaving
-pub kinds : (k : ℕ) → k ≤ 18 → T (among k outs) ⊎ (T (among k members) ⊎ T (among k leavers))
+pub kinds : (k : ℕ) → k ≤ last → T (among k outs) ⊎ (T (among k members) ⊎ T (among k leavers))
 kinds =
     by-stage (λ k. T (among k outs) ⊎ (T (among k members) ⊎ T (among k leavers)))
     (inl tt) (inl tt) (inl tt) (inr (inl tt)) (inl tt) (inl tt) (inl tt) (inl tt) (inl tt) (inl tt) (inl tt)
-    (inr (inl tt)) (inr (inl tt)) (inr (inl tt)) (inr (inl tt)) (inr (inr tt)) (inr (inr tt)) (inr (inr tt)) (inr (inr tt))
+    (inr (inl tt)) (inr (inl tt)) (inr (inl tt)) (inr (inl tt)) (inr (inr tt)) (inr (inr tt)) (inr (inr tt)) (inr (inr tt)) (inr (inl tt))
 
 pub seeks-not : (g : ℕ → ℕ) (sh : ℕ → Shared) (q k : ℕ) (me : Private) (its : Shared) → T (among k settled) → Seeks g sh q k me its
 seeks-not g sh q k me its m =

@@ -1,4 +1,4 @@
--- Stages 17 and 18: the next first is raised, then freed, and holds the lock from then on. Assumes nothing.
+-- Stages 17 and 18: the next first is raised, then freed, and holds the lock from then on. Stage 19: who took the lock free is raised. Assumes nothing.
 use Prim.Native.Nat.{ℕ, suc, _≤_}
 use mathlib.Core.Path.{_≡_, refl, sym, _∙_, ap, subst, subst⁻¹}
 use mathlib.Core.List.{List, [], _∷_}
@@ -6,9 +6,9 @@ use mathlib.Core.Logic.{_≢_, _⊎_, inl, inr, ⊎-elim}
 use lib.Dec.{T, lit≤}
 use native.Mathlib.Nat.{le-refl}
 use Rattle.laws.proofs.Cases.{equal}
-use Rattle.laws.proofs.Only.{among}
+use Rattle.laws.proofs.Only.{among, included}
 use Rattle.stage.proofs.Update.{upd-same, upd-other, upd-all}
-use Rattle.stage.specs.Rows.{goes, withOwn, withPriority, withLocked, row17, row18}
+use Rattle.stage.specs.Rows.{goes, withOwn, withPriority, withLocked, row17, row18, row19, last}
 use Rattle.stage.specs.Table.{upd}
 use Rattle.stage.specs.declared.Private.{Private}
 use Rattle.stage.specs.declared.Shared.{Shared}
@@ -17,7 +17,7 @@ use Rattle.line.specs.PlainLine.{Place}
 use Rattle.line.proofs.After.{After}
 use Rattle.line.proofs.Calm.{urgent-on}
 use Rattle.line.proofs.Facts.{stands-at, holder-at, member, head-in}
-use Rattle.line.proofs.Invariant.{Stands, Holder, Inv, members}
+use Rattle.line.proofs.Invariant.{Stands, Holder, Inv, holders, members, settled}
 use Rattle.line.proofs.Others.{other-calm, other-seeks}
 use Rattle.line.proofs.Places.{In, Distinct, head, behind, chain-map}
 use Rattle.line.proofs.Tables.{out-stands, held-stands, first-holder}
@@ -38,54 +38,59 @@ module _ (o : Course) {private : ℕ → Private} {sh : ℕ → Shared} {lock : 
   same-link : (x : ℕ) (its′ : Shared) → its′ .link ≡ sh x .link → (q : ℕ) → upd sh x its′ q .link ≡ sh q .link
   same-link x its′ e = upd-all sh x its′ (λ q s. s .link ≡ sh q .link) e (λ q n. refl)
 
-  pub row17-keeps : private p .stage ≡ 17 → After o private sh p (private p .s) (row17 suc p (private p) (sh (private p .s)) lock)
-  unfolding stepping
-  row17-keeps e = (
-    h,
-    record {
-      stands =
-          upd-all private p me′ (λ q me. Stands l h q (me .stage) (sh′ q .locked)) (held-stands l h p 18 _ (lit≤ tt) tt e′)
-          (λ q n. subst⁻¹ (λ (k : ℕ). Stands l h q (private q .stage) k) (upd-all sh s its′ (λ q z. z .locked ≡ sh q .locked) refl (λ q n. refl) q) (i .stands q));
-      seeks = other-seeks i p s me′ its′ into (inl refl) (i .bytes s) only·first tt;
-      holder =
-          upd-all private p me′ (λ q me. q ≡ h → Holder q (me .stage) me (sh′ q) lock l)
-          (λ _. record { free = absurd; first = absurd; away = holder-at i p 17 e e′ .away; closing = absurd; next = absurd; handing = λ _. f })
-          (λ q n z. absurd (n (z ∙ sym e′)))
-          h refl;
-      nobody = nobody′ me′;
-      distinct = i .distinct;
-      chain = chain-map (λ q. sh q .link .pointer) (λ q. sh′ q .link .pointer) l (λ q _. ap (λ k. k .pointer) (same-link s its′ refl q)) (i .chain);
-      sorted = i .sorted;
-      urgent = urgent-on i sh′ (other-calm i p s me′ its′ into (inl refl) (i .bytes s) only·first);
-      opens = λ q z. i .opens q (ap (λ k. k .mark) (sym (same-link s its′ refl q)) ∙ z);
-      marks = λ q. subst⁻¹ (λ k. k .mark ≤ 1) (same-link s its′ refl q) (i .marks q);
-      bytes = upd-all sh s its′ (λ q z. z .priority ≤ 255) (le-refl 255) (λ q n. i .bytes q);
-    },
-  )
+  -- the holder raises the record of the line's first, x, and goes on holding the lock
+  raising : p ≡ h → (x : ℕ) → l ≢ [] → head l ≡ x → (me′ : Private) → me′ .stage ≤ last → T (among (me′ .stage) holders)
+      → ((its : Shared) → Holder p (me′ .stage) me′ its lock l)
+      → Inv (o .given) (upd private p me′) (upd sh x (withPriority 255 (sh x))) lock l h
+  raising e′ x filled first me′ known held hold =
+      record {
+        stands =
+            upd-all private p me′ (λ q me. Stands l h q (me .stage) (sh′ q .locked)) (held-stands l h p (me′ .stage) _ known held e′)
+            (λ q n. subst⁻¹ (λ (k : ℕ). Stands l h q (private q .stage) k) (upd-all sh x its′ (λ q z. z .locked ≡ sh q .locked) refl (λ q n. refl) q) (i .stands q));
+        seeks = other-seeks i p x me′ its′ into (inl refl) (i .bytes x) only·first (included holders settled tt (me′ .stage) held);
+        holder =
+            upd-all private p me′ (λ q me. q ≡ h → Holder q (me .stage) me (sh′ q) lock l) (λ _. hold (sh′ p)) (λ q n z. absurd (n (z ∙ sym e′)))
+            h refl;
+        nobody = nobody′ me′;
+        distinct = i .distinct;
+        chain = chain-map (λ q. sh q .link .pointer) (λ q. sh′ q .link .pointer) l (λ q _. ap (λ k. k .pointer) (same-link x its′ refl q)) (i .chain);
+        sorted = i .sorted;
+        urgent = urgent-on i sh′ (other-calm i p x me′ its′ into (inl refl) (i .bytes x) only·first);
+        opens = λ q z. i .opens q (ap (λ k. k .mark) (sym (same-link x its′ refl q)) ∙ z);
+        marks = λ q. subst⁻¹ (λ k. k .mark ≤ 1) (same-link x its′ refl q) (i .marks q);
+        bytes = upd-all sh x its′ (λ q z. z .priority ≤ 255) (le-refl 255) (λ q n. i .bytes q);
+      }
     where
-      e′ : p ≡ h
-      e′ = stands-at i p 17 e .holds tt
+      into : In x l
+      into = head-in i x filled first
 
-      f : (lock ≡ head l) × (private p .s ≡ head l) × (l ≢ [])
-      f = holder-at i p 17 e e′ .handing tt
-
-      s : ℕ
-      s = private p .s
-
-      into : In s l
-      into = head-in i s (f .2) (sym (f .1))
-
-      only·first : In s (behind l) → 255 ≡ sh s .priority
-      only·first z = absurd (head-not-behind l (i .distinct) (subst (λ (k : ℕ). In k (behind l)) (f .1) z))
-
-      me′ : Private
-      me′ = goes 18 (private p)
+      only·first : In x (behind l) → 255 ≡ sh x .priority
+      only·first z = absurd (head-not-behind l (i .distinct) (subst⁻¹ (λ (k : ℕ). In k (behind l)) first z))
 
       its′ : Shared
-      its′ = withPriority 255 (sh s)
+      its′ = withPriority 255 (sh x)
 
       sh′ : ℕ → Shared
-      sh′ = upd sh s its′
+      sh′ = upd sh x its′
+
+  pub row17-keeps : private p .stage ≡ 17 → After o private sh p (private p .s) (row17 suc p (private p) (sh (private p .s)) lock)
+  unfolding stepping
+  row17-keeps e =
+      let e′ = stands-at i p 17 e .holds tt in
+      let f = holder-at i p 17 e e′ .handing tt in (
+        h,
+        raising e′ (private p .s) (f .2) (sym (f .1)) (goes 18 (private p)) (lit≤ tt) tt
+            (λ _. record { free = absurd; first = absurd; away = holder-at i p 17 e e′ .away; closing = absurd; next = absurd; handing = λ _. f }),
+      )
+
+  pub row19-keeps : private p .stage ≡ 19 → After o private sh p p (row19 suc p (private p) (sh p) lock)
+  unfolding stepping
+  row19-keeps e =
+      let e′ = stands-at i p 19 e .holds tt in
+      let f = holder-at i p 19 e e′ .first tt in (
+        h,
+        raising e′ p (f .1) (f .2) (goes 3 (private p)) (lit≤ tt) tt (λ its. first-holder p 3 _ its lock l tt f),
+      )
 
   pub row18-keeps : private p .stage ≡ 18 → After o private sh p (private p .s) (row18 suc p (private p) (sh (private p .s)) lock)
   unfolding stepping

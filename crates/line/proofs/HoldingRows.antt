@@ -3,13 +3,14 @@ use Prim.Native.Nat.{ℕ, suc, _≤_}
 use mathlib.Core.Path.{_≡_, refl, sym, _∙_, ap, subst, subst₂}
 use mathlib.Core.List.{List}
 use mathlib.Core.Logic.{_≢_, inl, inr}
-use lib.Dec.{lit≤, eqb}
+use lib.Dec.{T, lit≤, eqb}
 use borrow.Author.Tests.{eqb-true, eqb-false}
 use native.Mathlib.Omega.{arith}
 use Rattle.laws.proofs.Cases.{choose}
+use Rattle.laws.proofs.Only.{among, included}
 use Rattle.link.specs.Operations.{changed}
 use Rattle.stage.proofs.Update.{upd-kept}
-use Rattle.stage.specs.Rows.{goes, row3, row11, row12, row15, row16}
+use Rattle.stage.specs.Rows.{goes, row3, row11, row12, row15, row16, last}
 use Rattle.stage.specs.Table.{upd}
 use Rattle.stage.specs.declared.Private.{Private}
 use Rattle.stage.specs.declared.Shared.{Shared}
@@ -17,7 +18,7 @@ use Rattle.line.specs.History.{Course, stepping}
 use Rattle.line.specs.PlainLine.{Place}
 use Rattle.line.proofs.After.{Good, After}
 use Rattle.line.proofs.Facts.{stands-at, holder-at, seeks-not, head-in, empty, freed-first}
-use Rattle.line.proofs.Invariant.{Inv}
+use Rattle.line.proofs.Invariant.{Inv, holders, members, settled}
 use Rattle.line.proofs.Kept.{kept}
 use Rattle.line.proofs.Places.{head}
 use Rattle.line.proofs.Tables.{out-stands, out-holder, held-stands, first-holder}
@@ -65,17 +66,26 @@ module _ (o : Course) {private : ℕ → Private} {sh : ℕ → Shared} {lock : 
             (λ _. first-holder p 13 _ _ lock l tt f),
       )
 
+  -- the line's first goes from one stage to another of those it holds the lock at, and no record changes
+  holds-on : (k k′ : ℕ) → private p .stage ≡ k → T (among k holders) → T (among k members) → k′ ≤ last → T (among k′ holders) → T (among k′ members)
+      → Good (o .given) (upd private p (goes k′ (private p))) sh lock l
+  holds-on k k′ e held in·line known held′ in·line′ =
+      let e′ = stands-at i p k e .holds held in (
+        h,
+        subst (λ (f : ℕ → Shared). Inv (o .given) (upd private p (goes k′ (private p))) f lock l h) (upd-kept sh p)
+            (kept i p _ _ (inl refl) (λ _. (refl, refl)) lock (λ _. refl) some (i .opens p) (i .marks p) (i .bytes p)
+            (held-stands l h p k′ _ known held′ e′)
+            (seeks-not _ _ p k′ _ _ (included holders settled tt k′ held′))
+            (λ _. first-holder p k′ _ _ lock l in·line′ (holder-at i p k e e′ .first in·line))),
+      )
+
   -- begin release
   pub release-keeps : private p .stage ≡ 13 → Good (o .given) (upd private p (goes 14 (private p))) sh lock l
-  release-keeps e =
-      let e′ = stands-at i p 13 e .holds tt in (
-        h,
-        subst (λ (f : ℕ → Shared). Inv (o .given) (upd private p (goes 14 (private p))) f lock l h) (upd-kept sh p)
-            (kept i p _ _ (inl refl) (λ _. (refl, refl)) lock (λ _. refl) some (i .opens p) (i .marks p) (i .bytes p)
-            (held-stands l h p 14 _ (lit≤ tt) tt e′)
-            (seeks-not _ _ p 14 _ _ tt)
-            (λ _. first-holder p 14 _ _ lock l tt (holder-at i p 13 e e′ .first tt))),
-      )
+  release-keeps e = holds-on 13 14 e tt tt (lit≤ tt) tt tt
+
+  -- a desk of before R-1 leaves out stage 19
+  pub unraised-keeps : private p .stage ≡ 19 → Good (o .given) (upd private p (goes 3 (private p))) sh lock l
+  unraised-keeps e = holds-on 19 3 e tt tt (lit≤ tt) tt tt
 
   pub row15-keeps : private p .stage ≡ 15 → After o private sh p p (row15 suc p (private p) (sh p) lock)
   unfolding stepping

@@ -7,8 +7,8 @@ use borrow.Author.Tests.{eqb-true, not-false}
 use lib.Dec.{eqb}
 use native.Mathlib.Omega.{arith}
 use Rattle.laws.proofs.Only.{among}
-use Rattle.stage.proofs.Refusing.{Unrefused, refused-or, is-within}
-use Rattle.stage.specs.Calls.{Call, setUp, beginAcquisition, beginRelease, step, takeLog, refusals, answered, after, called}
+use Rattle.stage.proofs.Refusing.{Unrefused, is-within}
+use Rattle.stage.specs.Calls.{Call, setUp, beginAcquisition, beginRelease, step, takeLog, refusals, answered, after}
 use Rattle.stage.specs.Rows.{goes, withOwn}
 use Rattle.stage.specs.Table.{Table, upd, freshTable, begunAcquisition, begunRelease, stepOf, afterStep, logTaken}
 use Rattle.stage.specs.declared.Event.{Event}
@@ -17,10 +17,12 @@ use Rattle.stage.specs.declared.Private.{Private}
 use Rattle.stage.specs.declared.Reply.{Reply}
 use Rattle.stage.specs.declared.Reply.the-variants.{Answered}
 use Rattle.stage.specs.declared.Shared.{Shared}
-use Rattle.line.specs.History.{Course, start, stepping, accepted, heard, course, takes, machine, state, transcript, taken}
+use Rattle.line.specs.History.{Course, start, stepping, accepted, heard, course, takes, state, table, transcript, taken}
+use Rattle.line.specs.LetIn.{unraised, calledBy, mixed}
 use Rattle.line.specs.PlainLine.{Place}
 use Rattle.line.proofs.Beginning.{fresh-good, begin-keeps}
-use Rattle.line.proofs.HoldingRows.{release-keeps}
+use Rattle.line.proofs.Desks.{by-desk}
+use Rattle.line.proofs.HoldingRows.{release-keeps, unraised-keeps}
 use Rattle.line.proofs.Invariant.{Inv}
 use Rattle.line.proofs.Logs.{Logs, pending, insides, quiet, step-logs}
 use Rattle.line.proofs.Steps.{step-keeps}
@@ -84,16 +86,24 @@ module _ (fits : ℕ → Bool) where
         logs = kept .logs ∙ ap (λ (z : List ℕ). z ++ pending (t .private) (o .line)) (sym (append-nil (l ++ t .log)));
       }
 
-  call-keeps : (c : Call) (o : Course) (l : List ℕ) (t : Table) → Kept o l t
-      → Kept (heard c (called suc fits c t .0) o) (takes c (called suc fits c t .0) (t .log) l) (called suc fits c t .1)
-  unfolding called heard takes
-  call-keeps c o l t kept =
-      refused-or (λ (r : Reply × Table). Kept (heard c (r .0) o) (takes c (r .0) (t .log) l) (r .1)) (refusals suc fits c t) _ _
-      (λ k. kept) (accepted-keeps c o l t kept)
+  -- a module that a desk of before R-1 takes past stage 19
+  unraised-kept : (o : Course) (l : List ℕ) (t : Table) (p : ℕ) → t .private p .stage ≡ 19 → Kept o l t → Kept o l (unraised p t)
+  unfolding unraised
+  unraised-kept o l t p e kept =
+      let z = unraised-keeps o (kept .inv) p (λ nil. let none = ap (λ (q : ℕ). t .private q .stage) nil ∙ kept .inv .nobody in omega (arith, e, none)) e in
+      record { h = z .0; inv = z .1; logs = relog o l t p 19 (goes 3 (t .private p)) e refl (kept .logs) }
+
+  call-keeps : (before : Bool) (c : Call) (o : Course) (l : List ℕ) (t : Table) → Kept o l t
+      → let r = calledBy before suc fits c t in Kept (heard c (r .0) o) (takes c (r .0) (t .log) l) (r .1)
+  unfolding heard takes
+  call-keeps before c o l t kept =
+      by-desk suc fits c t (λ (r : Reply × Table). Kept (heard c (r .0) o) (takes c (r .0) (t .log) l) (r .1))
+      (λ k. kept) (accepted-keeps c o l t kept) (λ p r t′ e z. unraised-kept _ _ t′ p e z) before
 
   -- the ideal machine, from a fresh table of n modules
-  pub ideal-kept : (n : ℕ) (cs : List Call)
-      → Kept (course (transcript (machine suc fits) (freshTable n) cs)) (taken (machine suc fits) (freshTable n) cs) (state (machine suc fits) (freshTable n) cs)
-  unfolding course transcript taken state
-  ideal-kept n [] = fresh-kept n
-  ideal-kept n (c ∷ cs) = call-keeps c _ _ _ (ideal-kept n cs)
+  module _ (before : ℕ → Bool) (n : ℕ) where
+    pub ideal-kept : (cs : List Call)
+        → Kept (course (transcript (mixed before suc fits) (0, freshTable n) cs)) (taken (mixed before suc fits) (0, freshTable n) cs) (table (mixed before suc fits) (0, freshTable n) cs)
+    unfolding course transcript taken state
+    ideal-kept [] = fresh-kept n
+    ideal-kept (c ∷ cs) = call-keeps _ c _ _ _ (ideal-kept cs)

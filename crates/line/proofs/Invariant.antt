@@ -8,6 +8,7 @@ use mathlib.Core.Logic.{_⊎_, _≢_}
 use Rattle.laws.proofs.Only.{only, among}
 use Rattle.link.specs.Operations.{OPEN}
 use Rattle.link.specs.declared.Link.{Link}
+use Rattle.stage.specs.Rows.{last}
 use Rattle.stage.specs.declared.Private.{Private}
 use Rattle.stage.specs.declared.Shared.{Shared}
 use Rattle.line.specs.PlainLine.{Place}
@@ -27,7 +28,7 @@ waiters = 11 ∷ 12 ∷ []
 
 -- the holder's alone: from taking the lock free, or admission, to handing it on
 abbrev pub holders : List ℕ
-holders = 3 ∷ 13 ∷ 14 ∷ 15 ∷ 16 ∷ 17 ∷ 18 ∷ []
+holders = 19 ∷ 3 ∷ 13 ∷ 14 ∷ 15 ∷ 16 ∷ 17 ∷ 18 ∷ []
 
 -- a release after its leave
 abbrev pub leavers : List ℕ
@@ -35,15 +36,15 @@ leavers = 15 ∷ 16 ∷ 17 ∷ 18 ∷ []
 
 -- in the line
 abbrev pub members : List ℕ
-members = 3 ∷ 11 ∷ 12 ∷ 13 ∷ 14 ∷ []
+members = 19 ∷ 3 ∷ 11 ∷ 12 ∷ 13 ∷ 14 ∷ []
 
 -- seeking nothing
 abbrev pub settled : List ℕ
-settled = 0 ∷ 3 ∷ 11 ∷ 12 ∷ 13 ∷ 14 ∷ 15 ∷ 16 ∷ 17 ∷ 18 ∷ []
+settled = 0 ∷ 19 ∷ 3 ∷ 11 ∷ 12 ∷ 13 ∷ 14 ∷ 15 ∷ 16 ∷ 17 ∷ 18 ∷ []
 
 -- how a module q at stage k, its Locked as given, stands to the line
 pub record Stands (l : List Place) (h q k locked : ℕ) : Type 0 where
-  pub known : k ≤ 18
+  pub known : k ≤ last
   pub out : only (among k outs) (In q l → ⊥)
   pub waits : only (among k waiters) (In q l × (((q ≡ h) × (locked ≡ 0)) ⊎ ((q ≢ h) × (locked ≡ 1))))
   pub holds : only (among k holders) (q ≡ h)

@@ -11,7 +11,7 @@ use Rattle.laws.proofs.Only.{among, included}
 use Rattle.link.specs.Operations.{same, swapped, CLOSED}
 use Rattle.link.specs.declared.Swapped.the-variants as swap
 use Rattle.stage.proofs.Update.{upd-same, upd-other, upd-all, upd-kept}
-use Rattle.stage.specs.Rows.{find, rows, looksAt, stepped, after9}
+use Rattle.stage.specs.Rows.{find, rows, looked, looksAt, stepped, after9}
 use Rattle.stage.specs.Table.{upd, logged}
 use Rattle.stage.specs.declared.Private.{Private}
 use Rattle.stage.specs.declared.Shared.{Shared}
@@ -127,7 +127,7 @@ module _ (o : Course) {private : ℕ → Private} {sh : ℕ → Shared} {lock : 
   unfolding looksAt stepped find rows swapped stepping logged
   step-logs =
       by-stage
-      (λ k. private p .stage ≡ k → AfterLogs o taken private log p (find rows k .row suc p (private p) (sh (find rows k .looks p (private p))) lock))
+      (λ k. private p .stage ≡ k → AfterLogs o taken private log p (find rows k .row suc p (private p) (sh (looked (find rows k .looks) p (private p))) lock))
       (λ e. unmoved)
       (λ e. unheard 1 e refl _ refl)
       (λ e. choose (AfterLogs o taken private log p) (eqb lock 0) (λ _. joins 2 e refl _ refl (o .given p)) (λ _. unheard 2 e refl _ refl))
@@ -151,6 +151,7 @@ module _ (o : Course) {private : ℕ → Private} {sh : ℕ → Shared} {lock : 
       (λ e. choose (AfterLogs o taken private log p) (eqb (me .s) 0) (λ _. unheard 16 e refl _ refl) (λ _. unheard 16 e refl _ refl))
       (λ e. unheard 17 e refl _ refl)
       (λ e. unheard 18 e refl _ refl)
+      (λ e. unheard 19 e refl _ refl)
       (me .stage) (i .stands p .known) refl
     where
       me : Private

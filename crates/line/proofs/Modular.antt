@@ -15,21 +15,24 @@ use Rattle.link.proofs.Comparing.{same-true, same-self, same-not}
 use Rattle.link.specs.Count.{next}
 use Rattle.link.specs.Operations.{same}
 use Rattle.link.specs.declared.Link.{Link}
-use Rattle.stage.proofs.Refusing.{refused-or}
-use Rattle.stage.specs.Calls.{Call, setUp, beginAcquisition, beginRelease, step, takeLog, refusals, after, called}
+use Rattle.stage.proofs.Update.{upd-all}
+use Rattle.stage.specs.Calls.{Call, setUp, beginAcquisition, beginRelease, step, takeLog, after}
+use Rattle.stage.specs.Rows.{last}
 use Rattle.stage.specs.Table.{Table, idle, freshTable}
 use Rattle.stage.specs.declared.Reply.{Reply}
 use Rattle.line.specs.Demand3.{changed, reads, changesSince, InTime, Premise, Holds, Demand3}
-use Rattle.line.specs.History as History
-use Rattle.line.specs.History.{Course, takes, machine, state, transcript}
+use Rattle.line.specs.History.{Desk, Course, course, takes, machine, state, table, transcript, taken}
+use Rattle.line.specs.LetIn.{unraised, calledBy, mixed}
+use Rattle.line.proofs.Alike.{never, today, says-today, demand3-alike}
 use Rattle.line.proofs.Counted.{OneOn, readers, Ongoing, links-on, still, Counts, counts-on}
+use Rattle.line.proofs.Desks.{by-desk}
 use Rattle.line.proofs.Facts.{seeks-at}
 use Rattle.line.proofs.Holding.{kept-holds}
 use Rattle.line.proofs.Ideal.{ideal-kept}
 use Rattle.line.proofs.Invariant.{Read}
 use Rattle.line.proofs.OneFound.{found-wraps}
 use Rattle.line.proofs.Wrap.{wrapLink}
-use Rattle.line.proofs.WrapCalls.{wrap, Fair, fresh-wraps, call-wraps}
+use Rattle.line.proofs.WrapCalls.{wrap, Fair, fresh-wraps, desk-wraps}
 
 module _ (m : ℕ) (two : 1 < m) where
   -- a reduced link tells one change from none
@@ -81,83 +84,102 @@ module _ (m : ℕ) (two : 1 < m) where
   unfolding freshTable idle
   fresh-counts k since q z = absurd z
 
-  module _ (fits : ℕ → Bool) (n : ℕ) where
-    abbrev real : List Call → Table
-    real = state (machine (next m) fits) (freshTable n)
+  -- the changes since a reading, one call on, as the reduced tables tell them
+  abbrev told : Call → Table → (ℕ → ℕ → ℕ) → Table → ℕ → ℕ → ℕ
+  told c t since t′ q x = cond (reads q c t) 0 (since q x + cond (same (wrapLink m (t .shared x .link)) (wrapLink m (t′ .shared x .link))) 0 1)
+
+  module _ (t : Table) (since : ℕ → ℕ → ℕ) (below : (p : ℕ) → t .private p .stage ≤ last) (counts : Counts t since) where
+    ongoing : (c : Call) → Ongoing c → Counts (after suc c t) (told c t since (after suc c t))
+    ongoing c on =
+        counts-on c t (after suc c t) since _ (λ x. one-told (t .shared x .link) (after suc c t .shared x .link) (links-on t below c on x)) (still t below c on) counts
+
+    accepted : (c : Call) → Counts (after suc c t) (told c t since (after suc c t))
+    unfolding after
+    accepted (setUp k) = fresh-counts k (told (setUp k) t since (freshTable k))
+    accepted (beginAcquisition p r) = ongoing (beginAcquisition p r) tt
+    accepted (beginRelease p) = ongoing (beginRelease p) tt
+    accepted (step p) = ongoing (step p) tt
+    accepted (takeLog room) = ongoing (takeLog room) tt
+
+    counting : (fits : ℕ → Bool) (before : Bool) (c : Call) → let t′ = calledBy before suc fits c t .1 in Counts t′ (told c t since t′)
+    unfolding unraised
+    counting fits before c =
+        by-desk suc fits c t (λ (r : Reply × Table). Counts (r .1) (told c t since (r .1)))
+        (λ k. counts-on c t t since _ (λ x. one-told (t .shared x .link) (t .shared x .link) (inl refl)) (λ q z. (refl, inr (z, refl))) counts)
+        (λ _. accepted c)
+        (λ p r t′ e z. upd-all (t′ .private) p _
+        (λ q me. T (among (me .stage) readers) → t′ .shared (me .prev) .link .count ≡ me .w .count + told c t since t′ q (me .prev)) absurd (λ q n. z q))
+        before
+
+  module _ (fits : ℕ → Bool) (before : ℕ → Bool) (n : ℕ) where
+    abbrev Real : Desk
+    Real = mixed before (next m) fits
+
+    abbrev Ideal : Desk
+    Ideal = mixed before suc fits
+
+    abbrev fresh : ℕ × Table
+    fresh = (0, freshTable n)
 
     abbrev ideal : List Call → Table
-    ideal = state (machine suc fits) (freshTable n)
+    ideal = table Ideal fresh
 
     abbrev since : List Call → ℕ → ℕ → ℕ
-    since cs q x = changesSince (machine (next m) fits) (freshTable n) q x cs
+    since cs q x = changesSince Real fresh q x cs
 
     -- the real machine is the ideal one, reduced; it says the same, and has counted right
     pub record Follows (cs : List Call) : Type 0 where
-      pub table : real cs ≡ wrap m (ideal cs)
-      pub heard : transcript (machine (next m) fits) (freshTable n) cs ≡ transcript (machine suc fits) (freshTable n) cs
-      pub taken : History.taken (machine (next m) fits) (freshTable n) cs ≡ History.taken (machine suc fits) (freshTable n) cs
+      pub same-state : state Real fresh cs ≡ (state Ideal fresh cs .0, wrap m (ideal cs))
+      pub heard : transcript Real fresh cs ≡ transcript Ideal fresh cs
+      pub same-taken : taken Real fresh cs ≡ taken Ideal fresh cs
       pub counts : Counts (ideal cs) (since cs)
 
-    known : (cs : List Call) (p : ℕ) → ideal cs .private p .stage ≤ 18
-    known cs p = ideal-kept fits n cs .inv .stands p .known
+    known : (cs : List Call) (p : ℕ) → ideal cs .private p .stage ≤ last
+    known cs p = ideal-kept fits before n cs .inv .stands p .known
 
-    fair : (c : Call) (cs : List Call) → Follows cs → InTime (machine (next m) fits) (freshTable n) m c cs → Fair m c (ideal cs)
+    fair : (c : Call) (cs : List Call) → Follows cs → InTime Real fresh m c cs → Fair m c (ideal cs)
     unfolding InTime
     fair (setUp k) cs f z = tt
     fair (beginAcquisition p r) cs f z = tt
     fair (beginRelease p) cs f z = tt
     fair (step p) cs f z = λ e.
         let t = ideal cs in
-        let few = subst (λ (t′ : Table). t′ .private p .stage ≡ 9 → since cs p (t′ .private p .prev) < m) (f .table) z e in
-        alike (t .private p .w) (t .shared (t .private p .prev) .link) _ (seeks-at (ideal-kept fits n cs .inv) p 9 e .knows tt .0)
+        let few = subst (λ (s : ℕ × Table). s .1 .private p .stage ≡ 9 → since cs p (s .1 .private p .prev) < m) (f .same-state) z e in
+        alike (t .private p .w) (t .shared (t .private p .prev) .link) _ (seeks-at (ideal-kept fits before n cs .inv) p 9 e .knows tt .0)
         (f .counts p (subst⁻¹ (λ (k : ℕ). T (among k readers)) e tt)) few
     fair (takeLog room) cs f z = tt
 
-    -- the changes since a reading, one call on, as the reduced tables tell them
-    abbrev told : Call → Table → (ℕ → ℕ → ℕ) → Table → ℕ → ℕ → ℕ
-    told c t since t′ q x = cond (reads q c t) 0 (since q x + cond (same (wrapLink m (t .shared x .link)) (wrapLink m (t′ .shared x .link))) 0 1)
-
-    module _ (t : Table) (since : ℕ → ℕ → ℕ) (below : (p : ℕ) → t .private p .stage ≤ 18) (counts : Counts t since) where
-      ongoing : (c : Call) → Ongoing c → Counts (after suc c t) (told c t since (after suc c t))
-      ongoing c on =
-          counts-on c t (after suc c t) since _ (λ x. one-told (t .shared x .link) (after suc c t .shared x .link) (links-on t below c on x)) (still t below c on) counts
-
-      accepted : (c : Call) → Counts (after suc c t) (told c t since (after suc c t))
-      unfolding after
-      accepted (setUp k) = fresh-counts k (told (setUp k) t since (freshTable k))
-      accepted (beginAcquisition p r) = ongoing (beginAcquisition p r) tt
-      accepted (beginRelease p) = ongoing (beginRelease p) tt
-      accepted (step p) = ongoing (step p) tt
-      accepted (takeLog room) = ongoing (takeLog room) tt
-
-      counting : (c : Call) → Counts (called suc fits c t .1) (told c t since (called suc fits c t .1))
-      unfolding called
-      counting c =
-          refused-or (λ (r : Reply × Table). Counts (r .1) (told c t since (r .1))) (refusals suc fits c t) _ _
-          (λ k. counts-on c t t since _ (λ x. one-told (t .shared x .link) (t .shared x .link) (inl refl)) (λ q z. (refl, inr (z, refl))) counts)
-          (λ _. accepted c)
-
-    pub follows : (cs : List Call) → Premise (machine (next m) fits) (freshTable n) m cs → Follows cs
-    unfolding Premise state transcript History.taken changesSince changed
-    follows [] z = record { table = fresh-wraps m n; heard = refl; taken = refl; counts = fresh-counts n (since []) }
+    pub follows : (cs : List Call) → Premise Real fresh m cs → Follows cs
+    unfolding Premise state transcript taken changesSince changed
+    follows [] z = record { same-state = λ i. (0, fresh-wraps m n i); heard = refl; same-taken = refl; counts = fresh-counts n (since []) }
     follows (c ∷ cs) z =
         let f = follows cs (z .1) in
         let t = ideal cs in
-        let e : called (next m) fits c (real cs) ≡ (called suc fits c t .0, wrap m (called suc fits c t .1)) =
-        ap (called (next m) fits c) (f .table) ∙ call-wraps m fits t (known cs) c (fair c cs f (z .0)) in
+        let s = f .same-state in
+        let r = calledBy (before (state Ideal fresh cs .0)) suc fits c t in
+        let e : calledBy (before (state Real fresh cs .0)) (next m) fits c (table Real fresh cs) ≡ (r .0, wrap m (r .1)) =
+        ap (λ (k : ℕ × Table). calledBy (before (k .0)) (next m) fits c (k .1)) s
+        ∙ desk-wraps m fits t (known cs) (before (state Ideal fresh cs .0)) c (fair c cs f (z .0)) in
         record {
-          table = ap (λ (r : Reply × Table). r .1) e;
+          same-state = λ i. (suc (s i .0), e i .1);
           heard = λ i. (c, e i .0) ∷ f .heard i;
-          taken = λ i. takes c (e i .0) (f .table i .log) (f .taken i);
+          same-taken = λ i. takes c (e i .0) (s i .1 .log) (f .same-taken i);
           counts =
-              subst⁻¹ (λ (s : ℕ → ℕ → ℕ). Counts (called suc fits c t .1) s)
+              subst⁻¹ (λ (k : ℕ → ℕ → ℕ). Counts (r .1) k)
               (fun-ext (λ q. fun-ext (λ x.
-              ap (λ (b : Bool). cond b 0 (since cs q x + changed (real cs) (real (c ∷ cs)) x)) (ap (reads q c) (f .table) ∙ reads-wraps q c t)
-              ∙ (λ i. cond (reads q c t) 0 (since cs q x + changed (f .table i) (e i .1) x)))))
-              (counting t (since cs) (known cs) (f .counts) c);
+              ap (λ (b : Bool). cond b 0 (since cs q x + changed (table Real fresh cs) (table Real fresh (c ∷ cs)) x))
+              (ap (λ (k : ℕ × Table). reads q c (k .1)) s ∙ reads-wraps q c t)
+              ∙ (λ i. cond (reads q c t) 0 (since cs q x + changed (s i .1) (e i .1) x)))))
+              (counting t (since cs) (known cs) (f .counts) fits (before (state Ideal fresh cs .0)) c);
         }
 
-    pub modular : Demand3 (machine (next m) fits) (freshTable n) m
-    modular cs z =
+    pub mixed-holds : Demand3 Real fresh m
+    mixed-holds cs z =
         let f = follows cs z in
-        subst₃ Holds (sym (f .table)) (sym (ap History.course (f .heard))) (sym (f .taken)) (holds-wraps (kept-holds (ideal-kept fits n cs)))
+        subst₃ Holds (sym (ap (λ (s : ℕ × Table). s .1) (f .same-state))) (sym (ap course (f .heard))) (sym (f .same-taken))
+        (holds-wraps (kept-holds (ideal-kept fits before n cs)))
+
+  -- desks of today alone
+  module _ (fits : ℕ → Bool) (n : ℕ) where
+    pub modular : Demand3 (machine (next m) fits) (freshTable n) m
+    modular = demand3-alike (machine (next m) fits) (mixed never (next m) fits) (freshTable n) (0, freshTable n) (today (next m) fits n) (says-today (next m) fits n) m (mixed-holds fits never n)

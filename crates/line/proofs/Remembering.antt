@@ -16,7 +16,7 @@ use Rattle.link.specs.declared.Link.{Link}
 use Rattle.stage.proofs.ByStage.{by-stage}
 use Rattle.stage.proofs.Update.{upd-all}
 use Rattle.stage.specs.Calls.{step}
-use Rattle.stage.specs.Rows.{find, rows, looksAt, stepped, after9}
+use Rattle.stage.specs.Rows.{find, rows, looked, looksAt, stepped, after9}
 use Rattle.stage.specs.Table.{upd}
 use Rattle.stage.specs.declared.Event.the-variants.{Done, Waiting, Admitted, Joined, Left, Finished, Taken}
 use Rattle.stage.specs.declared.Private.{Private}
@@ -163,7 +163,7 @@ module _ (h : Transcript) {private : ℕ → Private} {sh : ℕ → Shared} {loc
   unfolding looksAt stepped find rows swapped
       course heard accepted stepping standing unlessSetUp stepIn stands ownSteps stepsNow succeeded leavesNow someone
   step-remembers =
-      by-stage (λ k. private p .stage ≡ k → AfterStep (find rows k .row suc p me (sh (find rows k .looks p me)) lock))
+      by-stage (λ k. private p .stage ≡ k → AfterStep (find rows k .row suc p me (sh (looked (find rows k .looks) p me)) lock))
       (λ e. calm _ (subst⁻¹ Away e tt))
       (λ e. calm _ tt)
       (λ e. choose AfterStep (eqb lock 0)
@@ -192,6 +192,7 @@ module _ (h : Transcript) {private : ℕ → Private} {sh : ℕ → Shared} {loc
       (λ _. onward 16 e tt _ refl))
       (λ e. onward 17 e tt _ refl)
       (λ e. finishes 18 e tt true (someone-in l (holder-at i p 18 e (stands-at i p 18 e .holds tt) .handing tt .2)) refl _ tt)
+      (λ e. calm _ tt)
       (me .stage) (i .stands p .known) refl
     where
       me : Private

@@ -6,6 +6,7 @@ use mathlib.Core.Logic.{_≢_, inl}
 use lib.Dec.{T}
 use Rattle.laws.proofs.Only.{among}
 use Rattle.stage.proofs.Update.{upd-kept}
+use Rattle.stage.specs.Rows.{last}
 use Rattle.stage.specs.Table.{upd}
 use Rattle.stage.specs.declared.Private.{Private}
 use Rattle.stage.specs.declared.Shared.{Shared}
@@ -25,7 +26,7 @@ module _ {g : ℕ → ℕ} {private : ℕ → Private} {sh : ℕ → Shared} {lo
   -- its record changes: the link's mark stays and its count does not fall
   pub seek :
       (me′ : Private) (its′ : Shared)
-      → me′ .stage ≤ 18
+      → me′ .stage ≤ last
       → T (among (me′ .stage) outs)
       → Onward (sh p .link) (its′ .link)
       → its′ .link .mark ≡ sh p .link .mark
@@ -41,7 +42,7 @@ module _ {g : ℕ → ℕ} {private : ℕ → Private} {sh : ℕ → Shared} {lo
   -- no record changes
   pub look :
       (me′ : Private)
-      → me′ .stage ≤ 18
+      → me′ .stage ≤ last
       → T (among (me′ .stage) outs)
       → Seeks g sh p (me′ .stage) me′ (sh p)
       → Inv g (upd private p me′) sh lock l h

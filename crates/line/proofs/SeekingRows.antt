@@ -10,7 +10,7 @@ use Rattle.laws.proofs.Only.{among}
 use Rattle.link.specs.Operations.{CLOSED, changed}
 use Rattle.link.specs.declared.Swapped.the-variants.{Failed}
 use Rattle.stage.proofs.Update.{upd-kept}
-use Rattle.stage.specs.Rows.{goes, withPrev, withW, row1, row4, row5, row6, row7, row8, after9, row10}
+use Rattle.stage.specs.Rows.{goes, withPrev, withW, row1, row4, row5, row6, row7, row8, after9, row10, last}
 use Rattle.stage.specs.Table.{upd}
 use Rattle.stage.specs.declared.Private.{Private}
 use Rattle.stage.specs.declared.Shared.{Shared}
@@ -28,7 +28,7 @@ module _ (o : Course) {private : ℕ → Private} {sh : ℕ → Shared} {lock : 
   at-out k e = subst⁻¹ (λ (j : ℕ). T (among j outs)) e
 
   -- a row that only looks at x
-  looked : (k : ℕ) → private p .stage ≡ k → T (among k outs) → (x : ℕ) (me′ : Private) → me′ .stage ≤ 18 → T (among (me′ .stage) outs)
+  looked : (k : ℕ) → private p .stage ≡ k → T (among k outs) → (x : ℕ) (me′ : Private) → me′ .stage ≤ last → T (among (me′ .stage) outs)
       → Seeks (o .given) sh p (me′ .stage) me′ (sh p) → Good (o .given) (upd private p me′) (upd sh x (sh x)) lock (o .line)
   looked k e out x me′ known o′ seeks = (
     h,

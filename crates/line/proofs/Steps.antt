@@ -3,13 +3,13 @@ use Prim.Native.Nat.{ℕ, suc}
 use mathlib.Core.Path.{_≡_, refl, sym, subst₂}
 use mathlib.Core.Logic.{_≢_}
 use Rattle.stage.proofs.Update.{upd-kept}
-use Rattle.stage.specs.Rows.{find, rows, noStep, looksAt, stepped}
+use Rattle.stage.specs.Rows.{find, rows, noStep, looked, looksAt, stepped}
 use Rattle.stage.specs.declared.Private.{Private}
 use Rattle.stage.specs.declared.Shared.{Shared}
 use Rattle.line.specs.History.{Course, stepping}
 use Rattle.line.proofs.After.{After}
 use Rattle.stage.proofs.ByStage.{by-stage}
-use Rattle.line.proofs.Handing.{row17-keeps, row18-keeps}
+use Rattle.line.proofs.Handing.{row17-keeps, row18-keeps, row19-keeps}
 use Rattle.line.proofs.HoldingRows.{row3-keeps, row11-keeps, row12-keeps, row15-keeps, row16-keeps}
 use Rattle.line.proofs.Invariant.{Inv}
 use Rattle.line.proofs.Joining.{row9-keeps}
@@ -29,7 +29,7 @@ module _ (o : Course) {private : ℕ → Private} {sh : ℕ → Shared} {lock : 
   step-keeps =
       by-stage
       (λ k. private p .stage ≡ k
-      → After o private sh p (find rows k .looks p (private p)) (find rows k .row suc p (private p) (sh (find rows k .looks p (private p))) lock))
+      → After o private sh p (looked (find rows k .looks) p (private p)) (find rows k .row suc p (private p) (sh (looked (find rows k .looks) p (private p))) lock))
       (λ _. no-step)
       (row1-keeps o i p some)
       (row2-keeps o i p some)
@@ -49,4 +49,5 @@ module _ (o : Course) {private : ℕ → Private} {sh : ℕ → Shared} {lock : 
       (row16-keeps o i p some)
       (row17-keeps o i p some)
       (row18-keeps o i p some)
+      (row19-keeps o i p some)
       (private p .stage) (i .stands p .known) refl

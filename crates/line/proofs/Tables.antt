@@ -5,13 +5,14 @@ use mathlib.Core.List.{List, [], _∷_}
 use mathlib.Core.Logic.{_≢_}
 use lib.Dec.{T}
 use Rattle.laws.proofs.Only.{among, disjoint}
+use Rattle.stage.specs.Rows.{last}
 use Rattle.stage.specs.declared.Private.{Private}
 use Rattle.stage.specs.declared.Shared.{Shared}
 use Rattle.line.specs.PlainLine.{Place}
 use Rattle.line.proofs.Invariant.{Stands, Holder, outs, waiters, holders, leavers, members}
 use Rattle.line.proofs.Places.{In, head}
 
-pub out-stands : (l : List Place) (h q k locked : ℕ) → k ≤ 18 → T (among k outs) → (In q l → ⊥) → Stands l h q k locked
+pub out-stands : (l : List Place) (h q k locked : ℕ) → k ≤ last → T (among k outs) → (In q l → ⊥) → Stands l h q k locked
 out-stands l h q k locked known o out =
     record {
       known = known;
@@ -31,7 +32,7 @@ out-holder h k me its lock l o free =
       handing = λ t. absurd (disjoint outs (17 ∷ 18 ∷ []) tt k o t);
     }
 
-pub held-stands : (l : List Place) (h q k locked : ℕ) → k ≤ 18 → T (among k holders) → q ≡ h → Stands l h q k locked
+pub held-stands : (l : List Place) (h q k locked : ℕ) → k ≤ last → T (among k holders) → q ≡ h → Stands l h q k locked
 held-stands l h q k locked known m holds =
     record {
       known = known;

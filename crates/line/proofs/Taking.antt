@@ -22,11 +22,11 @@ use Rattle.line.proofs.SeekingRows.{row2-waits}
 use Rattle.line.proofs.Tables.{held-stands, first-holder}
 
 module _ (o : Course) {private : ℕ → Private} {sh : ℕ → Shared} {lock : ℕ} {h : ℕ} (i : Inv (o .given) private sh lock (o .line) h) (p : ℕ) (some : p ≢ 0) where
-  taking : private p .stage ≡ 2 → lock ≡ 0 → Inv (o .given) (upd private p (goes 3 (private p))) sh p (record { module· = p; priority = o .given p } ∷ []) p
+  taking : private p .stage ≡ 2 → lock ≡ 0 → Inv (o .given) (upd private p (goes 19 (private p))) sh p (record { module· = p; priority = o .given p } ∷ []) p
   taking e z =
       record {
         stands =
-            upd-all private p me′ (λ q me. Stands (x ∷ []) p q (me .stage) (sh q .locked)) (held-stands (x ∷ []) p p 3 _ (lit≤ tt) tt refl)
+            upd-all private p me′ (λ q me. Stands (x ∷ []) p q (me .stage) (sh q .locked)) (held-stands (x ∷ []) p p 19 _ (lit≤ tt) tt refl)
             (λ q n. let s = i .stands q in
             record {
               known = s .known;
@@ -34,10 +34,10 @@ module _ (o : Course) {private : ℕ → Private} {sh : ℕ → Shared} {lock : 
               waits = λ t. absurd (nobody·in q (s .waits t .0));
               holds = λ t. absurd (disjoint holders outs tt (private q .stage) t (subst⁻¹ (λ (k : ℕ). T (among (private k .stage) outs)) (s .holds t) (free i z .1)));
             });
-        seeks = upd-all private p me′ (λ q me. Seeks (o .given) sh q (me .stage) me (sh q)) (seeks-not _ sh p 3 me′ (sh p) tt) (λ q n. i .seeks q);
+        seeks = upd-all private p me′ (λ q me. Seeks (o .given) sh q (me .stage) me (sh q)) (seeks-not _ sh p 19 me′ (sh p) tt) (λ q n. i .seeks q);
         holder =
             upd-all private p me′ (λ q me. q ≡ p → Holder q (me .stage) me (sh q) p (x ∷ []))
-            (λ _. first-holder p 3 me′ (sh p) p (x ∷ []) tt (refl, cons-ne-nil x [], refl))
+            (λ _. first-holder p 19 me′ (sh p) p (x ∷ []) tt (refl, cons-ne-nil x [], refl))
             (λ q n e′. absurd (n e′))
             p refl;
         nobody = ap (λ (me : Private). me .stage) (upd-other private p me′ 0 (λ e′. some (sym e′))) ∙ i .nobody;
@@ -51,7 +51,7 @@ module _ (o : Course) {private : ℕ → Private} {sh : ℕ → Shared} {lock : 
       }
     where
       me′ : Private
-      me′ = goes 3 (private p)
+      me′ = goes 19 (private p)
 
       x : Place
       x = record { module· = p; priority = o .given p }
@@ -64,6 +64,6 @@ module _ (o : Course) {private : ℕ → Private} {sh : ℕ → Shared} {lock : 
   row2-keeps e =
       choose (After o private sh p p) (eqb lock 0)
       (λ zero. let z = eqb-true lock 0 zero in
-      subst⁻¹ (λ (l : List Place). Good (o .given) (upd private p (goes 3 (private p))) (upd sh p (sh p)) p (join (record { module· = p; priority = o .given p }) l)) (free i z .0)
-      (p, subst⁻¹ (λ (f : ℕ → Shared). Inv (o .given) (upd private p (goes 3 (private p))) f p (record { module· = p; priority = o .given p } ∷ []) p) (upd-kept sh p) (taking e z)))
+      subst⁻¹ (λ (l : List Place). Good (o .given) (upd private p (goes 19 (private p))) (upd sh p (sh p)) p (join (record { module· = p; priority = o .given p }) l)) (free i z .0)
+      (p, subst⁻¹ (λ (f : ℕ → Shared). Inv (o .given) (upd private p (goes 19 (private p))) f p (record { module· = p; priority = o .given p } ∷ []) p) (upd-kept sh p) (taking e z)))
       (λ held. row2-waits o i p some e)

@@ -11,7 +11,7 @@ use Rattle.link.specs.Operations.{CLOSED, OPEN, changed, same, swapped}
 use Rattle.link.specs.declared.Link.{Link}
 use Rattle.link.specs.declared.Swapped.{Swapped}
 use Rattle.link.specs.declared.Swapped.the-variants.{Done, Failed}
-use Rattle.stage.specs.Rows.{leaves, goes, withW, withLink, find, rows, after9}
+use Rattle.stage.specs.Rows.{leaves, goes, withW, withLink, find, rows, after9, last}
 use Rattle.stage.specs.declared.Event.{Event}
 use Rattle.stage.specs.declared.Event.the-variants as event
 use Rattle.stage.specs.declared.Private.{Private}
@@ -67,7 +67,7 @@ module _ (m : ℕ) where
         ≡ wrapStepped (leaves (goes k me) (withLink (changed suc (its .link) to marked) its) lock e)
     relinked k to marked e = ap (λ (l : Link). leaves (goes k (wrapPrivate me)) (withLink l its) lock e) (changed-wraps (its .link) to marked)
 
-    pub row-wraps : (k : ℕ) → k ≤ 18 → (k ≡ 9 → Alike) → Wraps k
+    pub row-wraps : (k : ℕ) → k ≤ last → (k ≡ 9 → Alike) → Wraps k
     unfolding find rows
     row-wraps =
         by-stage (λ k. (k ≡ 9 → Alike) → Wraps k)
@@ -88,5 +88,6 @@ module _ (m : ℕ) where
         (λ _. relinked 15 (its .link .pointer) CLOSED event.Left)
         (λ _. refl)
         (λ _. sym (cond-map wrapStepped (eqb (me .s) 0) _ _))
+        (λ _. refl)
         (λ _. refl)
         (λ _. refl)

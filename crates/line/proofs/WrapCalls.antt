@@ -1,22 +1,23 @@
 -- A call on a table whose counts are reduced modulo m is the call on the table itself, reduced. Assumes nothing.
 use Prim.Native.Nat.{ℕ, suc, _≤_}
 use mathlib.Core.Path.{_≡_, refl, sym, _∙_, ap, subst⁻¹}
-use mathlib.Core.Bool.{Bool, not, _&&_, _||_}
+use mathlib.Core.Bool.{Bool, cond, not, _&&_, _||_}
 use mathlib.Core.List.{_∷_, []}
 use lib.Dec.{eqb, leb}
 use lib.ListN.{length}
 use native.Mathlib.Nat.{zero-mod}
+use Rattle.laws.proofs.Cases.{cond-map}
 use Rattle.link.specs.Count.{next}
 use Rattle.link.specs.Operations.{OPEN, CLOSED, fresh}
 use Rattle.stage.proofs.Refusing.{refusing-map}
 use Rattle.stage.proofs.Update.{upd-map}
 use Rattle.stage.specs.Calls.{Call, setUp, beginAcquisition, beginRelease, step, takeLog, within, capacity, admits, refusals, refusing, answered, after, called}
-use Rattle.stage.specs.Rows.{find, rows, goes, withOwn, withPriority, looksAt, stepped}
+use Rattle.stage.specs.Rows.{find, rows, goes, withOwn, withPriority, looked, looksAt, stepped, last, Looks, itself, prev's, w's, s's}
 use Rattle.stage.specs.Table.{Table, upd, idle, untouched, freshTable, begunAcquisition, begunRelease, stepOf, logged, afterStep, logTaken}
 use Rattle.stage.specs.declared.Reply.{Reply}
 use Rattle.stage.specs.declared.Reply.the-variants.{Refused, Answered}
 use Rattle.stage.specs.declared.Stepped.{Stepped}
-use Rattle.stage.proofs.ByStage.{by-stage}
+use Rattle.line.specs.LetIn.{unraised, leftBefore, soundBefore, calledBy}
 use Rattle.line.proofs.Wrap.{wrapPrivate, wrapShared, wrapStepped, Alike, row-wraps}
 
 module _ (m : ℕ) where
@@ -44,16 +45,20 @@ module _ (m : ℕ) where
         log = [];
       }
 
-  module _ (t : Table) (p : ℕ) (known : t .private p .stage ≤ 18) where
+  module _ (t : Table) (p : ℕ) (known : t .private p .stage ≤ last) where
     looks-wraps : looksAt p (wrapPrivate m (t .private p)) ≡ looksAt p (t .private p)
-    unfolding looksAt find rows
-    looks-wraps =
-        by-stage (λ k. find rows k .looks p (wrapPrivate m (t .private p)) ≡ find rows k .looks p (t .private p))
-        refl refl refl refl refl refl refl refl refl refl refl refl refl refl refl refl refl refl refl (t .private p .stage) known
+    unfolding looksAt
+    looks-wraps = whoever (find rows (t .private p .stage) .looks)
+      where
+        whoever : (l : Looks) → looked l p (wrapPrivate m (t .private p)) ≡ looked l p (t .private p)
+        whoever itself = refl
+        whoever prev's = refl
+        whoever w's = refl
+        whoever s's = refl
 
     looks-at-prev : t .private p .stage ≡ 9 → looksAt p (t .private p) ≡ t .private p .prev
     unfolding looksAt find rows
-    looks-at-prev e = ap (λ (k : ℕ). find rows k .looks p (t .private p)) e
+    looks-at-prev e = ap (λ (k : ℕ). looked (find rows k .looks) p (t .private p)) e
 
     step-wraps : Fair (step p) t → stepOf (next m) (wrap t) p ≡ wrapStepped m (stepOf suc t p)
     unfolding stepOf stepped
@@ -79,7 +84,7 @@ module _ (m : ℕ) where
         })
         ∙ (λ i. record { n = t .n; private = f i; shared = f′ i; lock = r .lock; log = logged (t .log) (r .answer .event) })
 
-  module _ (fits : ℕ → Bool) (t : Table) (known : (p : ℕ) → t .private p .stage ≤ 18) where
+  module _ (fits : ℕ → Bool) (t : Table) (known : (p : ℕ) → t .private p .stage ≤ last) where
     refusals-wrap : (c : Call) → Fair c t → refusals (next m) fits c (wrap t) ≡ refusals suc fits c t
     unfolding refusals
     refusals-wrap (setUp k) fair = refl
@@ -114,8 +119,46 @@ module _ (m : ℕ) where
     after-wraps (step p) fair = after-step-wraps t p (known p) fair
     after-wraps (takeLog room) fair = refl
 
-    pub call-wraps : (c : Call) → Fair c t → called (next m) fits c (wrap t) ≡ (called suc fits c t .0, wrap (called suc fits c t .1))
+    call-wraps : (c : Call) → Fair c t → called (next m) fits c (wrap t) ≡ (called suc fits c t .0, wrap (called suc fits c t .1))
     unfolding called
     call-wraps c fair =
         (λ i. refusing (refusals-wrap c fair i) (λ k. (Refused k, wrap t)) (Answered (answered-wraps c fair i), after-wraps c fair i))
         ∙ sym (refusing-map (λ (r : Reply × Table). (r .0, wrap (r .1))) (refusals suc fits c t) (λ k. (Refused k, t)) (Answered (answered suc c t), after suc c t))
+
+    unraised-wraps : (p : ℕ) (t′ : Table) → unraised p (wrap t′) ≡ wrap (unraised p t′)
+    unfolding unraised
+    unraised-wraps p t′ =
+        let f = sym (upd-map (wrapPrivate m) (t′ .private) p (goes 3 (t′ .private p))) in
+        λ i. record { n = t′ .n; private = f i; shared = λ q. wrapShared m (t′ .shared q); lock = t′ .lock; log = t′ .log }
+
+    left-wraps : (c : Call) (t′ : Table) → leftBefore c (wrap t) (wrap t′) ≡ wrap (leftBefore c t t′)
+    unfolding leftBefore
+    left-wraps (setUp k) t′ = refl
+    left-wraps (beginAcquisition p r) t′ = refl
+    left-wraps (beginRelease p) t′ = refl
+    left-wraps (step p) t′ =
+        let test = eqb (t .private p .stage) 2 && eqb (t′ .private p .stage) 19 in
+        (λ i. cond test (unraised-wraps p t′ i) (wrap t′)) ∙ sym (cond-map wrap test (unraised p t′) t′)
+    left-wraps (takeLog room) t′ = refl
+
+    sound-wraps : (c : Call) → soundBefore c (wrap t) ≡ soundBefore c t
+    unfolding soundBefore
+    sound-wraps (setUp k) = refl
+    sound-wraps (beginAcquisition p r) = refl
+    sound-wraps (beginRelease p) = refl
+    sound-wraps (step p) = refl
+    sound-wraps (takeLog room) = refl
+
+    abbrev wrapped : Reply × Table → Reply × Table
+    wrapped r = (r .0, wrap (r .1))
+
+    pub desk-wraps : (before : Bool) (c : Call) → Fair c t → calledBy before (next m) fits c (wrap t) ≡ wrapped (calledBy before suc fits c t)
+    unfolding calledBy
+    desk-wraps before c fair =
+        let e = call-wraps c fair in
+        let r = called suc fits c t in
+        let old : Reply × Table = (r .0, leftBefore c t (r .1)) in
+        (λ i. cond before (cond (sound-wraps c i) (e i .0, leftBefore c (wrap t) (e i .1)) (Refused 1, wrap t)) (e i))
+        ∙ (λ i. cond before (cond (soundBefore c t) (r .0, left-wraps c (r .1) i) (Refused 1, wrap t)) (wrapped r))
+        ∙ ap (λ (k : Reply × Table). cond before k (wrapped r)) (sym (cond-map wrapped (soundBefore c t) old (Refused 1, t)))
+        ∙ sym (cond-map wrapped before (cond (soundBefore c t) old (Refused 1, t)) r)

@@ -12,8 +12,8 @@ use Rattle.stage.specs.declared.Event.{Event}
 use Rattle.stage.specs.declared.Event.the-variants.{Done, Waiting, Admitted, Joined, Left, Finished, Taken}
 use Rattle.stage.specs.declared.Reply.{Reply}
 use Rattle.stage.specs.declared.Reply.the-variants.{Refused, Answered}
-use Rattle.line.specs.Demand3.{Found}
-use Rattle.line.specs.History.{Transcript, course}
+use Rattle.line.specs.Demand3.{Premise, Found}
+use Rattle.line.specs.History.{Desk, Transcript, course, table, transcript}
 use Rattle.line.specs.PlainLine.{Place, modules}
 
 -- p is one of these
@@ -124,3 +124,7 @@ pub record Corollaries (h : Transcript) (t : Table) : Type 0 where
   pub release-steps :
       (earlier : Transcript) (p : ℕ) → h ≡ (step p, Answered (answerOf Finished)) ∷ earlier
       → ownSteps p h ≡ cond (succeeded p earlier) 5 3
+
+-- so it is in every history under demand 3's premise
+abbrev pub Relied : (D : Desk) → D .State → ℕ → Type 0
+Relied D s m = (cs : List Call) → Premise D s m cs → Corollaries (transcript D s cs) (table D s cs)

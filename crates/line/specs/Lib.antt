@@ -2,3 +2,4 @@ pub mod PlainLine
 pub mod History
 pub mod Demand3
 pub mod Corollaries
+pub mod LetIn

@@ -13,6 +13,7 @@ use mir.Val.{Fits}
 use lib.Dec.{T, eqb, leb, leb→le, leb·zero}
 use lib.ListN.{getD}
 use Rattle.stage.specs.Calls.{within}
+use Rattle.stage.specs.Rows.{last}
 use Rattle.stage.specs.Sound.{at, each, soundLink, soundOwn, soundStage, soundPrivate, soundShared}
 use Rattle.layout.specs.Layout.{byte, privateAt, sharedAt}
 use Rattle.soundness.specs.SoundImage.{soundZeros}
@@ -75,7 +76,7 @@ any x h = rw (leb·zero, le-leb x 255 (omega arith))
 -- the rules of `soundStage`, where what they ask goes by s
 abbrev stageRules : ℕ → ℕ → ℕ → ℕ → ℕ → ℕ → Bool
 stageRules s stage own prev pointer next =
-    leb stage 18 && soundOwn s own && at (within 4 10 s) (leb 1 prev) && at (within 7 7 s) (leb 1 pointer) && at (within 17 18 s) (leb 1 next)
+    leb stage last && soundOwn s own && at (within 4 10 s) (leb 1 prev) && at (within 7 7 s) (leb 1 pointer) && at (within 17 18 s) (leb 1 next)
 
 -- the tests in the order of the bytes, and in that of `recordRight`
 reorder : (v o p lp q lq m z l8 m9 m13 t lt y : Bool)
@@ -94,16 +95,16 @@ asked-is b place n s small =
     let x : ℕ → ℕ = λ k. byte b (place + k) in
     rw (own-where, only-zero (x 5) .1, only-zero (x 15) .1, any (x 6) (small _), any (x 7) (small _), any (x 10) (small _), any (x 11) (small _), any (x 12) (small _))
     (simp (add-zero, leb·zero, set-where, and-true)
-    (reorder (leb (byte b place) 18) (soundOwn s (x 1)) (at (within 4 10 s) (leb 1 (x 2))) (leb (x 2) n) (at (within 7 7 s) (leb 1 (x 3))) (leb (x 3) n) (leb (x 4) 1) (eqb (x 5) 0)
+    (reorder (leb (byte b place) last) (soundOwn s (x 1)) (at (within 4 10 s) (leb 1 (x 2))) (leb (x 2) n) (at (within 7 7 s) (leb 1 (x 3))) (leb (x 3) n) (leb (x 4) 1) (eqb (x 5) 0)
     (leb (x 8) n) (leb (x 9) 1) (leb (x 13) 1) (at (within 17 18 s) (leb 1 (x 14))) (leb (x 14) n) (eqb (x 15) 0)))
 
 -- a row is looked up by the stage's remainder, which is the stage where that is one
 by-remainder : (stage own prev pointer next : ℕ) → stageRules (stage % 32) stage own prev pointer next ≡ soundStage stage own prev pointer next
 unfolding soundStage
-by-remainder stage own prev pointer next = go (leb stage 18) refl
+by-remainder stage own prev pointer next = go (leb stage last) refl
   where
-    go : (t : Bool) → leb stage 18 ≡ t → stageRules (stage % 32) stage own prev pointer next ≡ soundStage stage own prev pointer next
-    go true e = let h : stage ≤ 18 = leb-true stage 18 e in let same : stage % 32 ≡ stage = omega arith in rw same
+    go : (t : Bool) → leb stage last ≡ t → stageRules (stage % 32) stage own prev pointer next ≡ soundStage stage own prev pointer next
+    go true e = let h : stage ≤ last = leb-true stage last e in let same : stage % 32 ≡ stage = omega arith in rw same
     go false e = rw e
 
 by-tables : (b : List ℕ) (n place : ℕ) → ((i : ℕ) → byte b i < 256)

@@ -6,6 +6,7 @@ use mathlib.Core.List.{List, [], _∷_, _++_}
 use lib.Dec.{eqb, leb}
 use lib.ListN.{length, take, drop, getD, replicate}
 use Rattle.stage.specs.Calls.{within, capacity}
+use Rattle.stage.specs.Rows.{last}
 use Rattle.stage.specs.Sound.{every, each, soundPrivate, soundShared}
 use Rattle.layout.specs.Layout.{byte, two, four, lengthFor, distanceFor, logAt, privateAt, sharedAt}
 use Rattle.soundness.specs.SoundImage.{soundZeros}
@@ -44,7 +45,7 @@ abbrev pub leastRow : ℕ → ℕ → ℕ → ℕ → List ℕ
 leastRow own prev pointer s = 0 ∷ own ∷ prev ∷ pointer ∷ 0 ∷ 0 ∷ 0 ∷ 0 ∷ 0 ∷ 0 ∷ 0 ∷ 0 ∷ 0 ∷ 0 ∷ s ∷ 0 ∷ []
 
 abbrev pub greatestRow : ℕ → ℕ → List ℕ
-greatestRow own n = 18 ∷ own ∷ n ∷ n ∷ 1 ∷ 0 ∷ 255 ∷ 255 ∷ n ∷ 1 ∷ 255 ∷ 255 ∷ 255 ∷ 1 ∷ n ∷ 0 ∷ []
+greatestRow own n = last ∷ own ∷ n ∷ n ∷ 1 ∷ 0 ∷ 255 ∷ 255 ∷ n ∷ 1 ∷ 255 ∷ 255 ∷ 255 ∷ 1 ∷ n ∷ 0 ∷ []
 
 -- the tables, and where in them the row of each stage starts
 abbrev pub leastTable : List ℕ

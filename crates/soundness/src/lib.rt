@@ -118,9 +118,9 @@ fn greatest(n: u8) -> [u8; 32]
 {
     let mut table = [255; 32];
     // stage and own priority
-    table[0] = 18;
+    table[0] = stage::LAST;
     table[1] = 0;
-    table[16] = 18;
+    table[16] = stage::LAST;
     table[17] = 254;
     // prev, w's pointer, the link's pointer and s
     table[2] = n;
@@ -266,7 +266,7 @@ fn set_at(low: u8, high: u8, stage: u8, x: u8) -> bool
 fn sound_stage(stage: u8, own: u8, prev: u8, pointer: u8, s: u8) -> bool
     ensures { λ r. ⌜ r ≡ soundStage stage own prev pointer s ⌝ }
 {
-    if 18 < stage {
+    if stage::LAST < stage {
         return false;
     }
     if !sound_own(stage, own) {

@@ -7,7 +7,7 @@ use Prim.Native.Nat.{ℕ}
 use lib.Dec.{T, eqb, eqb→eq}
 use borrow.Author.Tests.{eq-eqb, ne-eqb, lt-ltb, le-ltb}
 use Rattle.laws.proofs.Only.{among}
-use Rattle.stage.specs.Rows.{Entry, at, itself, noStep, find, rows, looksAt, stepped}
+use Rattle.stage.specs.Rows.{Entry, at, itself, noStep, find, rows, looked, looksAt, stepped}
 use Rattle.stage.specs.declared.Private.{Private}
 use Rattle.stage.specs.declared.Shared.{Shared}
 use Rattle.stage.specs.declared.Stepped.{Stepped}
@@ -16,9 +16,9 @@ pub at-stage : (k : ℕ) (bump : ℕ → ℕ) (p : ℕ) (me : Private) (its : Sh
 unfolding stepped
 at-stage k bump p me its lock r e same = same ∙ ap (λ (j : ℕ). find rows j .row bump p me its lock) (sym e)
 
-pub looks-at-stage : (k p : ℕ) (me : Private) (r : ℕ) → me .stage ≡ k → r ≡ find rows k .looks p me → r ≡ looksAt p me
+pub looks-at-stage : (k p : ℕ) (me : Private) (r : ℕ) → me .stage ≡ k → r ≡ looked (find rows k .looks) p me → r ≡ looksAt p me
 unfolding looksAt
-looks-at-stage k p me r e same = same ∙ ap (λ (j : ℕ). find rows j .looks p me) (sym e)
+looks-at-stage k p me r e same = same ∙ ap (λ (j : ℕ). looked (find rows j .looks) p me) (sym e)
 
 -- what the code's tests say of the table's
 pub ruleset tests = (at-stage, looks-at-stage, eq-eqb, ne-eqb, lt-ltb, le-ltb)
@@ -58,13 +58,13 @@ found P k js none z (e ∷ es) each =
 
 -- a number that is no stage has no step
 abbrev stages : List ℕ
-stages = 18 ∷ 17 ∷ 16 ∷ 15 ∷ 14 ∷ 13 ∷ 12 ∷ 11 ∷ 10 ∷ 9 ∷ 8 ∷ 7 ∷ 6 ∷ 5 ∷ 4 ∷ 3 ∷ 2 ∷ 1 ∷ 0 ∷ []
+stages = 19 ∷ 18 ∷ 17 ∷ 16 ∷ 15 ∷ 14 ∷ 13 ∷ 12 ∷ 11 ∷ 10 ∷ 9 ∷ 8 ∷ 7 ∷ 6 ∷ 5 ∷ 4 ∷ 3 ∷ 2 ∷ 1 ∷ 0 ∷ []
 
 pub past-the-table : (bump : ℕ → ℕ) (p : ℕ) (me : Private) (its : Shared) (lock : ℕ) → NoneOf stages (me .stage) → noStep bump p me its lock ≡ stepped bump p me its lock
 unfolding rows stepped
 past-the-table bump p me its lock none =
     found (λ (e : Entry). noStep bump p me its lock ≡ e .row bump p me its lock) (me .stage) stages none refl rows
-    (tt, (tt, (tt, (tt, (tt, (tt, (tt, (tt, (tt, (tt, (tt, (tt, (tt, (tt, (tt, (tt, (tt, tt)))))))))))))))))
+    (tt, (tt, (tt, (tt, (tt, (tt, (tt, (tt, (tt, (tt, (tt, (tt, (tt, (tt, (tt, (tt, (tt, (tt, tt))))))))))))))))))
 
 -- a row that looks at no other module's shared part looks at its own
 abbrev elsewhere : List ℕ
@@ -72,5 +72,5 @@ elsewhere = 18 ∷ 17 ∷ 10 ∷ 9 ∷ 7 ∷ 6 ∷ 5 ∷ []
 
 pub at-itself : (p : ℕ) (me : Private) → NoneOf elsewhere (me .stage) → p ≡ looksAt p me
 unfolding rows looksAt
-at-itself p me none = found (λ (e : Entry). p ≡ e .looks p me) (me .stage) elsewhere none refl rows
-    (refl, (refl, (refl, (refl, (tt, (tt, (tt, (refl, (tt, (tt, (refl, (refl, (refl, (refl, (refl, (tt, (tt, tt)))))))))))))))))
+at-itself p me none = found (λ (e : Entry). p ≡ looked (e .looks) p me) (me .stage) elsewhere none refl rows
+    (refl, (refl, (refl, (refl, (tt, (tt, (tt, (refl, (tt, (tt, (refl, (refl, (refl, (refl, (refl, (tt, (tt, (refl, tt))))))))))))))))))

@@ -7,7 +7,7 @@ use Rattle.laws.proofs.Cases.{choose}
 use Rattle.link.specs.Operations.{same, swapped}
 use Rattle.link.specs.declared.Swapped.{Swapped}
 use Rattle.stage.specs.Answers.{answerOf}
-use Rattle.stage.specs.Rows.{leaves, find, rows, stepped, after9}
+use Rattle.stage.specs.Rows.{leaves, find, rows, stepped, after9, last}
 use Rattle.stage.specs.declared.Answer.{Answer}
 use Rattle.stage.specs.declared.Event.{Event}
 use Rattle.stage.specs.declared.Event.the-variants.{Done, Waiting, Admitted, Joined, Left, Finished, Taken}
@@ -35,7 +35,7 @@ module _ (bump : ℕ → ℕ) (p : ℕ) (me : Private) (its : Shared) (lock : �
   says : (me′ : Private) (its′ : Shared) (lock′ : ℕ) (e : Event) → Of p e → Agrees p (leaves me′ its′ lock′ e)
   says me′ its′ lock′ e z = record { number = refl; itself = z }
 
-  pub agrees : me .stage ≤ 18 → Agrees p (stepped bump p me its lock)
+  pub agrees : me .stage ≤ last → Agrees p (stepped bump p me its lock)
   unfolding stepped find rows swapped
   agrees known =
       by-stage (λ k. Agrees p (find rows k .row bump p me its lock))
@@ -58,4 +58,5 @@ module _ (bump : ℕ → ℕ) (p : ℕ) (me : Private) (its : Shared) (lock : �
       (choose (Agrees p) (eqb (me .s) 0) (λ _. says _ _ _ Finished tt) (λ _. says _ _ _ Done tt))
       (says _ _ _ Done tt)
       (says _ _ _ Finished tt)
+      (says _ _ _ Done tt)
       (me .stage) known

@@ -16,7 +16,7 @@ use Rattle.stage.proofs.Refusing.{Unrefused, refused-or, is-within}
 use Rattle.stage.proofs.Soundly.{SoundMe, SoundIts, SoundStepped, private-facts, private-tests, shared-facts, shared-tests, row-sound}
 use Rattle.stage.proofs.Update.{upd-all}
 use Rattle.stage.specs.Calls.{Call, setUp, beginAcquisition, beginRelease, step, takeLog, within, capacity, admits, refusals, answered, after, called}
-use Rattle.stage.specs.Rows.{goes, withOwn, find, rows, looksAt, stepped}
+use Rattle.stage.specs.Rows.{goes, withOwn, find, rows, looked, looksAt, stepped}
 use Rattle.stage.specs.Sound.{soundPrivate, soundShared, each, soundTable, KeepsSound}
 use Rattle.stage.specs.Table.{Table, upd, idle, untouched, freshTable, begunAcquisition, begunRelease, stepOf, logged, afterStep, logTaken}
 use Rattle.stage.specs.declared.Event.{Event}
@@ -66,7 +66,7 @@ table-tests t s =
 pub looks-known : (n p : ℕ) (me : Private) → 1 ≤ p → p ≤ n → SoundMe n me → (1 ≤ looksAt p me) × (looksAt p me ≤ n)
 unfolding looksAt find rows
 looks-known n p me low high s =
-    by-stage (λ k. me .stage ≡ k → (1 ≤ find rows k .looks p me) × (find rows k .looks p me ≤ n))
+    by-stage (λ k. me .stage ≡ k → (1 ≤ looked (find rows k .looks) p me) × (looked (find rows k .looks) p me ≤ n))
     (λ e. (low, high))
     (λ e. (low, high))
     (λ e. (low, high))
@@ -86,6 +86,7 @@ looks-known n p me low high s =
     (λ e. (low, high))
     (λ e. (s .has-s (omega arith) (omega arith), s .s))
     (λ e. (s .has-s (omega arith) (omega arith), s .s))
+    (λ e. (low, high))
     (me .stage) (s .stage) refl
 
 -- an admission is logged where there is room, and names a module

@@ -11,7 +11,7 @@ use Rattle.laws.proofs.Cases.{choose, test, both-hold, both-are}
 use Rattle.link.specs.Operations.{CLOSED, same, changed, swapped}
 use Rattle.link.specs.declared.Swapped.{Swapped}
 use Rattle.stage.specs.Calls.{within, capacity}
-use Rattle.stage.specs.Rows.{leaves, goes, withW, stepped, find, rows, after9}
+use Rattle.stage.specs.Rows.{leaves, goes, withW, stepped, find, rows, after9, last}
 use Rattle.stage.specs.Sound.{at, soundLink, soundOwn, soundStage, soundPrivate, soundShared}
 use Rattle.stage.proofs.ByStage.{by-stage}
 use Rattle.stage.specs.declared.Event.{Event}
@@ -26,7 +26,7 @@ pub record SoundMe (n : ℕ) (me : Private) : Type 0 where
   pub mark : me .w .mark ≤ 1
   pub prev : me .prev ≤ n
   pub s : me .s ≤ n
-  pub stage : me .stage ≤ 18
+  pub stage : me .stage ≤ last
   pub idle : me .stage ≡ 0 → me .own ≡ 0
   pub busy : 1 ≤ me .stage → (1 ≤ me .own) × (me .own ≤ 254)
   pub has-prev : 4 ≤ me .stage → me .stage ≤ 10 → 1 ≤ me .prev
@@ -104,7 +104,7 @@ unfolding soundShared soundLink
 shared-tests n its s = both-are (both-are (le-leb _ _ (s .pointer)) (le-leb _ _ (s .mark))) (le-leb _ _ (s .locked))
 
 module _ (n p : ℕ) (known : p ≤ n) (me : Private) (its : Shared) (lock : ℕ) (sound : SoundMe n me) (sound′ : SoundIts n its) (below : lock ≤ n) (bump : ℕ → ℕ) where
-  rows-sound : (k : ℕ) → k ≤ 18 → me .stage ≡ k → SoundStepped n (find rows k .row bump p me its lock)
+  rows-sound : (k : ℕ) → k ≤ last → me .stage ≡ k → SoundStepped n (find rows k .row bump p me its lock)
   unfolding find rows swapped changed
   rows-sound =
       by-stage (λ k. me .stage ≡ k → SoundStepped n (find rows k .row bump p me its lock))
@@ -137,6 +137,7 @@ module _ (n p : ℕ) (known : p ≤ n) (me : Private) (its : Shared) (lock : ℕ
       choose (SoundStepped n) (eqb (me .s) 0) (λ b. omega arith) (λ b. let some = eqb-false (me .s) 0 b in omega arith))
       (λ e. let o = sound .busy (omega arith) in let q = sound .has-s (omega arith) (omega arith) in omega arith)
       (λ e. omega arith)
+      (λ e. let o = sound .busy (omega arith) in omega arith)
     where
       still : (e : Event) → SoundStepped n (leaves me its lock e)
       still e = record { me = sound; its = sound′; lock = below }

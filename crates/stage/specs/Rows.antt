@@ -1,4 +1,4 @@
--- The stage table. Document 01, "The stage table": its rows 1 to 18, in its order and its words.
+-- The stage table. Document 01, "The stage table": its rows 1 to 18, in its order and its words; and document 02, R-1: row 19, and where 2 goes.
 --
 -- A row is given the stepping module's number p and private part `me`, the shared part `its` of the one module that it looks at, and the
 -- lock word. It leaves all three, and answers what happened. "What a row doesn't name keeps its value." `bump` is how a count changes.
@@ -47,20 +47,17 @@ abbrev pub leaves : Private → Shared → ℕ → Event → Stepped
 leaves me its lock e = record { me = me; its = its; lock = lock; answer = answerOf e }
 
 -- whose shared part a row looks at: the stepping module's own, prev's, that of w's pointer, or that of s
-abbrev pub Looks : Type 0
-Looks = ℕ → Private → ℕ
+pub data Looks : Type 0 where
+  itself : Looks
+  prev's : Looks
+  w's : Looks
+  s's : Looks
 
-abbrev pub itself : Looks
-itself p me = p
-
-abbrev pub prev's : Looks
-prev's p me = me .prev
-
-abbrev pub w's : Looks
-w's p me = me .w .pointer
-
-abbrev pub s's : Looks
-s's p me = me .s
+abbrev pub looked : Looks → ℕ → Private → ℕ
+looked itself p me = p
+looked prev's p me = me .prev
+looked w's p me = me .w .pointer
+looked s's p me = me .s
 
 abbrev pub Row : Type 0
 Row = (ℕ → ℕ) → ℕ → Private → Shared → ℕ → Stepped
@@ -69,12 +66,12 @@ Row = (ℕ → ℕ) → ℕ → Private → Shared → ℕ → Stepped
 abbrev pub row1 : Row
 row1 bump p me its lock = leaves (goes 2 me) (withLink (pointed bump (its .link) 0) its) lock Done
 
--- 2: lock word 0: it becomes this module; 3
+-- 2: lock word 0: it becomes this module; 19. R-1: "A new stage 19 follows a success at stage 2"
 --    else prev := lock word; 4
 abbrev pub row2 : Row
 row2 bump p me its lock =
     cond (eqb lock 0)
-    (leaves (goes 3 me) its p Joined)
+    (leaves (goes 19 me) its p Joined)
     (leaves (goes 4 (withPrev lock me)) its lock Done)
 
 -- 3: open own link, log admission; 13
@@ -157,6 +154,10 @@ row17 bump p me its lock = leaves (goes 18 me) (withPriority 255 its) lock Done
 abbrev pub row18 : Row
 row18 bump p me its lock = leaves (goes 0 (withOwn 0 me)) (withLocked 0 its) lock Finished
 
+-- 19: R-1: "own record priority := 255, then stage 3"
+abbrev pub row19 : Row
+row19 bump p me its lock = leaves (goes 3 me) (withPriority 255 its) lock Done
+
 -- 0: idle, no step. 13: inside, no step. A call there is refused; nothing changes.
 abbrev pub noStep : Row
 noStep bump p me its lock = leaves me its lock Done
@@ -189,7 +190,12 @@ rows =
     ∷ at 16 itself row16
     ∷ at 17 s's row17
     ∷ at 18 s's row18
+    ∷ at 19 itself row19
     ∷ []
+
+-- stages are numbered from 0 to this
+abbrev pub last : ℕ
+last = 19
 
 -- the entry of a stage; stages 0 and 13, and numbers that are no stage, have none
 unfoldable pub find : List Entry → ℕ → Entry
@@ -198,7 +204,7 @@ find (e ∷ others) k = cond (eqb k (e .number)) e (find others k)
 
 -- whose shared part the module p with the private part `me` looks at in its step
 unfoldable pub looksAt : ℕ → Private → ℕ
-looksAt p me = find rows (me .stage) .looks p me
+looksAt p me = looked (find rows (me .stage) .looks) p me
 
 -- the step
 unfoldable pub stepped : Row

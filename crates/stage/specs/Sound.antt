@@ -8,6 +8,7 @@ use lib.Dec.{eqb, leb}
 use lib.ListN.{length}
 use Rattle.link.specs.declared.Link.{Link}
 use Rattle.stage.specs.Calls.{Call, within, capacity, called}
+use Rattle.stage.specs.Rows.{last}
 use Rattle.stage.specs.Table.{Table}
 use Rattle.stage.specs.declared.Private.{Private}
 use Rattle.stage.specs.declared.Shared.{Shared}
@@ -26,8 +27,8 @@ soundOwn stage own = cond (eqb stage 0) (eqb own 0) (within 1 254 own)
 
 unfoldable pub soundStage : ℕ → ℕ → ℕ → ℕ → ℕ → Bool
 soundStage stage own prev pointer s =
-    -- "stage is 0 to 18"
-    leb stage 18
+    -- "stage is 0 to 18"; R-1: "Sound images allow stage 19"
+    leb stage last
     && soundOwn stage own
     -- "prev isn't 0 at stages 4 to 10"
     && at (within 4 10 stage) (leb 1 prev)

@@ -1,6 +1,6 @@
 // The stage table: one step of one module, by value.
 //
-// 01, "The stage table". Of each module, what only the module itself writes (`Private`) stands apart from what others may touch
+// 01, "The stage table", and 02, R-1. Of each module, what only the module itself writes (`Private`) stands apart from what others may touch
 // (`Shared`). A row reads or writes the shared part of ONE module, the one that `looks_at` names, or the lock word. So `step` takes
 // the stepping module's private part, that one shared part and the lock word, and answers what each is afterwards.
 use link::Link;
@@ -9,6 +9,9 @@ ghost use mathlib.Core.Path.{_≡_};
 ghost use Rattle.link.specs.Count.{next, size};
 ghost use Rattle.stage.specs.Answers.{answerOf, moduleAdmitted, lengthTaken};
 ghost use Rattle.stage.specs.Rows.{goes, withOwn, withPriority, looksAt, stepped};
+
+// Stages are numbered from 0 to this.
+pub const LAST: u8 = 19;
 
 // What only the module itself writes.
 pub struct Private {
@@ -163,7 +166,7 @@ pub fn step(p: u8, mut me: Private, mut its: Shared, lock: u8) -> Stepped
         }
         2 => {
             if lock == 0 {
-                me.stage = 3;
+                me.stage = 19;
                 return Stepped {
                     me,
                     its,
@@ -422,6 +425,16 @@ pub fn step(p: u8, mut me: Private, mut its: Shared, lock: u8) -> Stepped
                 its,
                 lock,
                 answer: Answer::FINISHED,
+            }
+        }
+        19 => {
+            its.priority = 255;
+            me.stage = 3;
+            Stepped {
+                me,
+                its,
+                lock,
+                answer: Answer::DONE,
             }
         }
         _ => Stepped {

@@ -51,4 +51,5 @@ step-spec =
     (λ c. search tests)
     (λ c. search tests)
     (λ c. search tests)
+    (λ c. search tests)
     (λ c. past-the-table _ _ _ _ _ (c .match .rest)))

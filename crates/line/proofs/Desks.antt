@@ -1,0 +1,42 @@
+-- What a call by a desk of today or of before R-1 comes to: a refusal, what an accepted call leaves, or that with a module taken from 19 to 3.
+-- Assumes nothing.
+use Prim.Native.Nat.{ℕ}
+use mathlib.Core.Path.{_≡_}
+use mathlib.Core.Bool.{Bool, _&&_}
+use lib.Dec.{eqb}
+use borrow.Author.Tests.{eqb-true}
+use Rattle.laws.proofs.Cases.{choose, both-hold}
+use Rattle.stage.proofs.Refusing.{Unrefused, refused-or}
+use Rattle.stage.specs.Calls.{Call, setUp, beginAcquisition, beginRelease, step, takeLog, refusals, answered, after, called}
+use Rattle.stage.specs.Table.{Table}
+use Rattle.stage.specs.declared.Reply.{Reply}
+use Rattle.stage.specs.declared.Reply.the-variants.{Refused, Answered}
+use Rattle.line.specs.LetIn.{unraised, leftBefore, soundBefore, calledBy}
+
+module _ (bump : ℕ → ℕ) (fits : ℕ → Bool) (c : Call) (t : Table) (P : Reply × Table → Type 0)
+    (refused : (k : ℕ) → P (Refused k, t))
+    (accepted : Unrefused (refusals bump fits c t) → P (Answered (answered bump c t), after bump c t)) where
+  today : P (called bump fits c t)
+  unfolding called
+  today = refused-or P (refusals bump fits c t) _ _ refused accepted
+
+  -- what is so where p is at 19 is so where it is at 3
+  pub by-desk : ((p : ℕ) (r : Reply) (t′ : Table) → t′ .private p .stage ≡ 19 → P (r, t′) → P (r, unraised p t′)) → (before : Bool) → P (calledBy before bump fits c t)
+  unfolding calledBy leftBefore
+  by-desk on before = choose P before (λ _. choose P (soundBefore c t) (λ _. left c) (λ _. refused 1)) (λ _. today)
+    where
+      r : Reply
+      r = called bump fits c t .0
+
+      t′ : Table
+      t′ = called bump fits c t .1
+
+      left : (c′ : Call) → P (r, leftBefore c′ t t′)
+      left (setUp k) = today
+      left (beginAcquisition p k) = today
+      left (beginRelease p) = today
+      left (step p) =
+          choose (λ (z : Table). P (r, z)) (eqb (t .private p .stage) 2 && eqb (t′ .private p .stage) 19)
+          (λ e. on p r t′ (eqb-true (t′ .private p .stage) 19 (both-hold (eqb (t .private p .stage) 2) _ e .1)) today)
+          (λ _. today)
+      left (takeLog room) = today

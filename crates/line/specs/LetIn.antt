@@ -1,0 +1,60 @@
+-- Document 02, R-1, "Let the urgent one into the line": what it adds to demand 3; and tables that desks of before R-1 work on too.
+use Prim.Native.Nat.{ℕ, suc}
+use mathlib.Core.Path.{_≡_}
+use mathlib.Core.Bool.{Bool, true, cond, _&&_}
+use mathlib.Core.List.{List, _∷_}
+use mathlib.Core.Logic.{_≢_}
+use lib.Dec.{eqb, leb}
+use Rattle.stage.specs.Calls.{Call, setUp, beginAcquisition, beginRelease, step, takeLog, called}
+use Rattle.stage.specs.Rows.{goes}
+use Rattle.stage.specs.Sound.{every}
+use Rattle.stage.specs.Table.{Table, upd}
+use Rattle.stage.specs.declared.Reply.{Reply}
+use Rattle.stage.specs.declared.Reply.the-variants.{Refused}
+use Rattle.line.specs.Demand3.{Premise, Inside}
+use Rattle.line.specs.History.{Desk, table}
+
+-- "Added: a step at stage 6 that looks at a module inside never returns to stage 1, in demand 3's histories begun under this rule." The step looks at
+-- prev; it counts whether prev is inside when the step is made.
+abbrev pub LetIn : (D : Desk) → D .State → ℕ → Type 0
+LetIn D s m =
+    (cs : List Call) → Premise D s m cs
+    → (p : ℕ) → table D s cs .private p .stage ≡ 6 → Inside (table D s cs) (table D s cs .private p .prev)
+    → table D s (step p ∷ cs) .private p .stage ≢ 1
+
+-- A desk of before R-1. It goes from a success at stage 2 to stage 3: where today p goes to 19, it is at 3 at once, and its record is not raised.
+unfoldable pub unraised : ℕ → Table → Table
+unraised p t = record { n = t .n; private = upd (t .private) p (goes 3 (t .private p)); shared = t .shared; lock = t .lock; log = t .log }
+
+-- t is the table before the call, t′ the one that the call leaves today
+unfoldable pub leftBefore : Call → Table → Table → Table
+leftBefore (setUp k) t t′ = t′
+leftBefore (beginAcquisition p r) t t′ = t′
+leftBefore (beginRelease p) t t′ = t′
+leftBefore (step p) t t′ = cond (eqb (t .private p .stage) 2 && eqb (t′ .private p .stage) 19) (unraised p t′) t′
+leftBefore (takeLog room) t t′ = t′
+
+-- "stage is 0 to 18": to it an image with a module at stage 19 is unsound. A set-up asks for no sound image.
+unfoldable pub soundBefore : Call → Table → Bool
+soundBefore (setUp k) t = true
+soundBefore (beginAcquisition p r) t = every (t .n) (λ q. leb (t .private q .stage) 18)
+soundBefore (beginRelease p) t = every (t .n) (λ q. leb (t .private q .stage) 18)
+soundBefore (step p) t = every (t .n) (λ q. leb (t .private q .stage) 18)
+soundBefore (takeLog room) t = every (t .n) (λ q. leb (t .private q .stage) 18)
+
+-- a call by a desk of before R-1, or by one of today
+unfoldable pub calledBy : Bool → (ℕ → ℕ) → (ℕ → Bool) → Call → Table → Reply × Table
+calledBy before bump fits c t =
+    cond before
+    (cond (soundBefore c t) (called bump fits c t .0, leftBefore c t (called bump fits c t .1)) (Refused 1, t))
+    (called bump fits c t)
+
+-- Desks of both kinds on one table: `before k` says whether the call after k others is made by one of before R-1.
+abbrev pub mixed : (ℕ → Bool) → (ℕ → ℕ) → (ℕ → Bool) → Desk
+mixed before bump fits =
+    record {
+      State = ℕ × Table;
+      says = λ c s. calledBy (before (s .0)) bump fits c (s .1) .0;
+      leaves = λ c s. (suc (s .0), calledBy (before (s .0)) bump fits c (s .1) .1);
+      shows = λ s. s .1;
+    }
