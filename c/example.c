@@ -1,5 +1,5 @@
-/* B1 to B4 of document 01's bench table, run through the header. Prints the line after each, and the log; every figure of the table is checked,
- * and the first that differs ends the program with 1. */
+/* B1 to B4 and B7 of document 01's bench table, as R-1 of document 02 has changed them, run through the header. Prints the line after each, and
+ * the log; every figure of the table is checked, and the first that differs ends the program with 1. */
 #include "mokroshel.h"
 
 #include <stdio.h>
@@ -57,6 +57,18 @@ static void refused(const char *what, uint32_t said, unsigned expected) {
     same(what, mokroshel_number(said), expected);
 }
 
+/* B1: module 1, priority 10: after 4 steps inside, link (nil, open, 2), lock 1; its record is raised. */
+static void run_b1(void) {
+    static const unsigned b1[] = {0, 3, 0, 2};
+    same("B1 begins", mokroshel_begin_acquisition(image, LENGTH, 1, 10), MOKROSHEL_DONE);
+    steps("B1", 1, b1, 4);
+    same("B1 stage", record(1)[0], 13);
+    link_is("B1 link 1", 1, 0, 0, 2);
+    same("B1 lock", lock_word(), 1);
+    same("B1 record priority of 1", record(1)[12], 255);
+    print_line("B1");
+}
+
 int main(void) {
     uint8_t log[MOKROSHEL_LOG];
     memset(image, 0xa5, sizeof image);
@@ -70,14 +82,7 @@ int main(void) {
     refused("priority 255", mokroshel_begin_acquisition(image, LENGTH, 1, 255), MOKROSHEL_NO_PRIORITY);
     refused("idle", mokroshel_step(image, LENGTH, 1), MOKROSHEL_WRONG_STAGE);
 
-    /* B1: module 1, priority 10: after 3 steps inside, link (nil, open, 2), lock 1. */
-    static const unsigned b1[] = {0, 3, 2};
-    same("B1 begins", mokroshel_begin_acquisition(image, LENGTH, 1, 10), MOKROSHEL_DONE);
-    steps("B1", 1, b1, 3);
-    same("B1 stage", record(1)[0], 13);
-    link_is("B1 link 1", 1, 0, 0, 2);
-    same("B1 lock", lock_word(), 1);
-    print_line("B1");
+    run_b1();
 
     /* B2: then module 2, priority 5: 8 steps; link 1 (2, open, 3), link 2 (nil, open, 3); the 9th answers 1. */
     static const unsigned b2[] = {0, 0, 0, 0, 0, 0, 3, 0, 1};
@@ -120,6 +125,17 @@ int main(void) {
     for (size_t k = 2; k < sizeof log; k++)
         same("rest of the buffer", log[k], 0x5a);
     same("an empty log", mokroshel_take_log(image, LENGTH, log, 0), MOKROSHEL_DONE);
+
+    /* B7: after B1, module 3 with priority 20 joins while 1 stays inside; the 9th step answers 1. */
+    static const unsigned b7[] = {0, 0, 0, 0, 0, 0, 3, 0, 1};
+    same("set-up anew", mokroshel_set_up(image, LENGTH, N), MOKROSHEL_DONE);
+    run_b1();
+    same("B7 begins", mokroshel_begin_acquisition(image, LENGTH, 3, 20), MOKROSHEL_DONE);
+    steps("B7", 3, b7, 9);
+    same("B7 stage of 1", record(1)[0], 13);
+    link_is("B7 link 1", 1, 3, 0, 3);
+    link_is("B7 link 3", 3, 0, 0, 3);
+    print_line("B7");
 
     for (size_t k = 0; k < OWNERS; k++)
         same("owner's byte", image[k], 0xa5);

@@ -26,8 +26,8 @@ abbrev pub inside : List ℕ → List ℕ → Bool
 inside [] ks = true
 inside (j ∷ js) ks = among j ks && inside js ks
 
--- a number of (j ∷ js) is j, or of js
-one-of : {A : Type 0} (b c : Bool) → (b ≡ true → A) → (T c → A) → T (b || c) → A
+-- one of two tests holds, or both do
+pub one-of : {A : Type 0} (b c : Bool) → (b ≡ true → A) → (T c → A) → T (b || c) → A
 one-of true c f g t = f refl
 one-of false c f g t = g t
 
@@ -35,7 +35,7 @@ or-right : (b c : Bool) → T c → T (b || c)
 or-right true c t = tt
 or-right false c t = t
 
-both : (a b : Bool) → T (a && b) → T a × T b
+pub both : (a b : Bool) → T (a && b) → T a × T b
 both true b t = (tt, t)
 
 pub disjoint : (js ks : List ℕ) → T (apart js ks) → (k : ℕ) → T (among k js) → T (among k ks) → ⊥

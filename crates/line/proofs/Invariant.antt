@@ -3,7 +3,7 @@
 -- Assumes nothing.
 use Prim.Native.Nat.{ℕ, _≤_, _<_}
 use mathlib.Core.Path.{_≡_}
-use mathlib.Core.List.{List, [], _∷_}
+use mathlib.Core.List.{List, [], _∷_, _++_}
 use mathlib.Core.Logic.{_⊎_, _≢_}
 use Rattle.laws.proofs.Only.{only, among}
 use Rattle.link.specs.Operations.{OPEN}
@@ -14,11 +14,7 @@ use Rattle.stage.specs.declared.Shared.{Shared}
 use Rattle.line.specs.PlainLine.{Place}
 use Rattle.line.proofs.Places.{In, All, Distinct, Sorted, head, behind, Chain}
 
--- away from the line: idle or seeking
-abbrev pub outs : List ℕ
-outs = 0 ∷ 1 ∷ 2 ∷ 4 ∷ 5 ∷ 6 ∷ 7 ∷ 8 ∷ 9 ∷ 10 ∷ []
-
--- seeking, with the given priority in the record
+-- Every stage but 0, which is idle, is one of these. Seeking, with the given priority in the record:
 abbrev pub seekers : List ℕ
 seekers = 1 ∷ 2 ∷ 4 ∷ 5 ∷ 6 ∷ 7 ∷ 8 ∷ 9 ∷ 10 ∷ []
 
@@ -26,21 +22,29 @@ seekers = 1 ∷ 2 ∷ 4 ∷ 5 ∷ 6 ∷ 7 ∷ 8 ∷ 9 ∷ 10 ∷ []
 abbrev pub waiters : List ℕ
 waiters = 11 ∷ 12 ∷ []
 
--- the holder's alone: from taking the lock free, or admission, to handing it on
-abbrev pub holders : List ℕ
-holders = 19 ∷ 3 ∷ 13 ∷ 14 ∷ 15 ∷ 16 ∷ 17 ∷ 18 ∷ []
+-- the line's first: from taking the lock free, or admission, to its leave
+abbrev pub leaders : List ℕ
+leaders = 19 ∷ 3 ∷ 13 ∷ 14 ∷ []
 
 -- a release after its leave
 abbrev pub leavers : List ℕ
 leavers = 15 ∷ 16 ∷ 17 ∷ 18 ∷ []
 
+-- away from the line: idle or seeking
+abbrev pub outs : List ℕ
+outs = 0 ∷ seekers
+
+-- the holder's alone
+abbrev pub holders : List ℕ
+holders = leaders ++ leavers
+
 -- in the line
 abbrev pub members : List ℕ
-members = 19 ∷ 3 ∷ 11 ∷ 12 ∷ 13 ∷ 14 ∷ []
+members = leaders ++ waiters
 
 -- seeking nothing
 abbrev pub settled : List ℕ
-settled = 0 ∷ 19 ∷ 3 ∷ 11 ∷ 12 ∷ 13 ∷ 14 ∷ 15 ∷ 16 ∷ 17 ∷ 18 ∷ []
+settled = 0 ∷ holders ++ waiters
 
 -- how a module q at stage k, its Locked as given, stands to the line
 pub record Stands (l : List Place) (h q k locked : ℕ) : Type 0 where

@@ -1,13 +1,14 @@
 -- A step at a known stage is that stage's row, and a step at a stage of which only is known what it is not.
 -- Assumes nothing.
-use mathlib.Core.Path.{_≡_, refl, _∙_, ap, sym, subst}
-use mathlib.Core.Bool.{Bool, true, false, cond, _||_}
+use mathlib.Core.Path.{_≡_, refl, _∙_, ap, sym, subst⁻¹}
+use mathlib.Core.Bool.{Bool, true, false, _&&_, _||_}
 use mathlib.Core.List.{List, [], _∷_}
 use Prim.Native.Nat.{ℕ}
-use lib.Dec.{T, eqb, eqb→eq}
-use borrow.Author.Tests.{eq-eqb, ne-eqb, lt-ltb, le-ltb}
-use Rattle.laws.proofs.Only.{among}
-use Rattle.stage.specs.Rows.{Entry, at, itself, noStep, find, rows, looked, looksAt, stepped}
+use lib.Dec.{T, eqb}
+use borrow.Author.Tests.{eqb-true, eq-eqb, ne-eqb, lt-ltb, le-ltb}
+use Rattle.laws.proofs.Cases.{choose}
+use Rattle.laws.proofs.Only.{among, one-of, both}
+use Rattle.stage.specs.Rows.{Entry, at, Looks, itself, prev's, w's, s's, noStep, find, rows, looked, looksAt, stepped}
 use Rattle.stage.specs.declared.Private.{Private}
 use Rattle.stage.specs.declared.Shared.{Shared}
 use Rattle.stage.specs.declared.Stepped.{Stepped}
@@ -28,33 +29,25 @@ abbrev pub NoneOf : List ℕ → ℕ → Type 0
 NoneOf [] k = Unit {0}
 NoneOf (j ∷ js) k = NoneOf js k × (k ≡ j → ⊥)
 
-one-of : (b : Bool) (rest : Bool) → (T b → ⊥) → (T rest → ⊥) → T (b || rest) → ⊥
-one-of true rest no·b no·rest t = no·b tt
-one-of false rest no·b no·rest t = no·rest t
-
 none-among : (js : List ℕ) (k : ℕ) → NoneOf js k → T (among k js) → ⊥
-none-among [] k none t = t
-none-among (j ∷ js) k none t = one-of (eqb k j) (among k js) (λ q. none .1 (eqb→eq k j q)) (none-among js k (none .0)) t
+none-among (j ∷ js) k none t = one-of (eqb k j) (among k js) (λ e. none .1 (eqb-true k j e)) (none-among js k (none .0)) t
 
--- each entry is one of js's, or has P
-abbrev pub Each : (Entry → Type 0) → List ℕ → List Entry → Type 0
-Each P js [] = Unit {0}
-Each P js (e ∷ es) = cond (among (e .number) js) (Unit {0}) (P e) × Each P js es
+-- each entry passes the test
+abbrev pub all : (Entry → Bool) → List Entry → Bool
+all f [] = true
+all f (e ∷ es) = f e && all f es
 
--- what is found for a k that is none of js has P
-found : (P : Entry → Type 0) (k : ℕ) (js : List ℕ) → NoneOf js k → P (at k itself noStep) → (es : List Entry) → Each P js es → P (find es k)
+-- where each entry is one of js, or passes a test by which it has P, what is found for a k that is none of js has P
+found : (P : Entry → Type 0) (k : ℕ) (js : List ℕ) → NoneOf js k → P (at k itself noStep) → (passes : Entry → Bool) → ((e : Entry) → T (passes e) → P e)
+    → (es : List Entry) → T (all (λ e. among (e .number) js || passes e) es) → P (find es k)
 unfolding find
-found P k js none z [] each = z
-found P k js none z (e ∷ es) each =
-    here (eqb k (e .number)) (λ q. taken (among (e .number) js) (λ t. none-among js k none (subst (λ (i : ℕ). T (among i js)) (sym (eqb→eq k (e .number) q)) t)) (each .0)) (found P k js none z es (each .1))
-  where
-    taken : (b : Bool) → (T b → ⊥) → cond b (Unit {0}) (P e) → P e
-    taken true no·b u = absurd (no·b tt)
-    taken false no·b u = u
-
-    here : (b : Bool) → (T b → P e) → P (find es k) → P (cond b e (find es k))
-    here true a z′ = a tt
-    here false a z′ = z′
+found P k js none z passes has [] t = z
+found P k js none z passes has (e ∷ es) t =
+    let a = both (among (e .number) js || passes e) (all (λ f. among (f .number) js || passes f) es) t in
+    choose P (eqb k (e .number))
+    (λ q. one-of (among (e .number) js) (passes e)
+    (λ yes·. absurd (none-among js k none (subst⁻¹ T (ap (λ (i : ℕ). among i js) (eqb-true k (e .number) q) ∙ yes·) tt))) (has e) (a .0))
+    (λ _. found P k js none z passes has es (a .1))
 
 -- a number that is no stage has no step
 abbrev stages : List ℕ
@@ -63,14 +56,22 @@ stages = 19 ∷ 18 ∷ 17 ∷ 16 ∷ 15 ∷ 14 ∷ 13 ∷ 12 ∷ 11 ∷ 10 ∷ 9
 pub past-the-table : (bump : ℕ → ℕ) (p : ℕ) (me : Private) (its : Shared) (lock : ℕ) → NoneOf stages (me .stage) → noStep bump p me its lock ≡ stepped bump p me its lock
 unfolding rows stepped
 past-the-table bump p me its lock none =
-    found (λ (e : Entry). noStep bump p me its lock ≡ e .row bump p me its lock) (me .stage) stages none refl rows
-    (tt, (tt, (tt, (tt, (tt, (tt, (tt, (tt, (tt, (tt, (tt, (tt, (tt, (tt, (tt, (tt, (tt, (tt, tt))))))))))))))))))
+    found (λ (e : Entry). noStep bump p me its lock ≡ e .row bump p me its lock) (me .stage) stages none refl (λ e. false) (λ e. absurd) rows tt
 
 -- a row that looks at no other module's shared part looks at its own
 abbrev elsewhere : List ℕ
 elsewhere = 18 ∷ 17 ∷ 10 ∷ 9 ∷ 7 ∷ 6 ∷ 5 ∷ []
 
+abbrev own : Looks → Bool
+own itself = true
+own prev's = false
+own w's = false
+own s's = false
+
+own-is : (p : ℕ) (me : Private) (l : Looks) → T (own l) → p ≡ looked l p me
+own-is p me itself t = refl
+
 pub at-itself : (p : ℕ) (me : Private) → NoneOf elsewhere (me .stage) → p ≡ looksAt p me
 unfolding rows looksAt
-at-itself p me none = found (λ (e : Entry). p ≡ looked (e .looks) p me) (me .stage) elsewhere none refl rows
-    (refl, (refl, (refl, (refl, (tt, (tt, (tt, (refl, (tt, (tt, (refl, (refl, (refl, (refl, (refl, (tt, (tt, (refl, tt))))))))))))))))))
+at-itself p me none =
+    found (λ (e : Entry). p ≡ looked (e .looks) p me) (me .stage) elsewhere none refl (λ e. own (e .looks)) (λ e. own-is p me (e .looks)) rows tt

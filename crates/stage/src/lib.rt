@@ -407,7 +407,7 @@ pub fn step(p: u8, mut me: Private, mut its: Shared, lock: u8) -> Stepped
             }
         }
         17 => {
-            its.priority = 255;
+            its.priority = 255; // the record of s
             me.stage = 18;
             Stepped {
                 me,
@@ -428,7 +428,7 @@ pub fn step(p: u8, mut me: Private, mut its: Shared, lock: u8) -> Stepped
             }
         }
         19 => {
-            its.priority = 255;
+            its.priority = 255; // its own record
             me.stage = 3;
             Stepped {
                 me,

@@ -1,6 +1,6 @@
 //! What the cases met, with counts.
 
-use reference::{row_for, Field, Row, Sheet, RULES, STAGE_TABLE};
+use reference::{row_for, Field, Row, Sheet, LAST_STAGE, RULES, STAGE_TABLE};
 
 use crate::{Call, Kind, DAMAGES};
 
@@ -67,6 +67,10 @@ odd_classes! {
     Locked4 => "stage 4 where Locked was 1 already",
     Raised17 => "stage 17 where the record priority was 255 already",
     Freed18 => "stage 18 where Locked was 0 already",
+    Raised19 => "stage 19 where the record priority was 255 already",
+    Unraised3 => "stage 3 where the record priority is not 255, as before R-1",
+    InsideBelow6 => "stage 6, prev inside and its record priority below own",
+    InsideRaised6 => "stage 6, prev inside and raised, its own priority below own",
     Equal6 => "equal priorities at stage 6",
     OneBelow6 => "one below own at stage 6",
     Equal7 => "equal priorities at stage 7",
@@ -79,13 +83,22 @@ odd_classes! {
     OwnRecordDiffers10 => "stage 10, own and own record priority on either side of prev's",
     PrevNil3 => "prev nil at stage 3",
     PrevNil11 => "prev nil at stage 11",
+    PrevNil19 => "prev nil at stage 19",
     WNil8 => "w's pointer nil at stage 8",
+    WNil19 => "w's pointer nil at stage 19",
+    SNil19 => "s nil at stage 19",
+    PrevOther19 => "stage 19 where prev is another module, not raised",
+    SOther19 => "stage 19 where s is another module, not raised",
     SNil16Lock => "stage 16 without successor, lock word not this module",
+    LockOther19 => "stage 19, lock word not this module",
     LogTo256By3 => "admission at stage 3 fills the log to 256",
     LogTo256By12 => "admission at stage 12 fills the log to 256",
     WaitingFull => "waiting while the log holds 256",
     OtherStepFull => "a step that admits nobody while the log holds 256",
+    RaisingFull => "stage 19 while the log holds 256",
     NoEntryLocked3 => "admission at stage 3 with Locked 1, which stays",
+    Locked19 => "stage 19 with Locked 1, which stays",
+    Open19 => "stage 19 with an open mark, which stays",
     StepAlone => "a step in a table of 1 module",
     StepOf64 => "a step in a table of 64 modules",
     StepOfLast => "a step of the last of several modules",
@@ -155,6 +168,9 @@ const REFUSALS: [(&str, u32); 15] = [
     ("take the log", 6),
 ];
 
+/// How many stages there are.
+const STAGES: usize = LAST_STAGE as usize + 1;
+
 /// A class and how often it was hit.
 #[derive(Clone, PartialEq, Eq, Debug)]
 pub struct Class {
@@ -175,8 +191,10 @@ pub struct Coverage {
     history_refusals: [u64; REFUSALS.len()],
     history_set_ups: u64,
     history_takings: u64,
+    /// Stage 6 where prev is inside and less urgent by its own priority.
+    history_urgent: u64,
     /// Begin acquisition and begin release refused 4, by stage.
-    wrong_stage: [[u64; 19]; 2],
+    wrong_stage: [[u64; STAGES]; 2],
     rules: [u64; RULES.len()],
     damages: Vec<u64>,
     odd: Vec<u64>,
@@ -200,7 +218,8 @@ impl Coverage {
             history_refusals: [0; REFUSALS.len()],
             history_set_ups: 0,
             history_takings: 0,
-            wrong_stage: [[0; 19]; 2],
+            history_urgent: 0,
+            wrong_stage: [[0; STAGES]; 2],
             rules: [0; RULES.len()],
             damages: vec![0; DAMAGES.len()],
             odd: vec![0; ODD.len()],
@@ -237,9 +256,13 @@ impl Coverage {
             "in a history, a log with entries taken".into(),
             self.history_takings,
         );
+        add(
+            "in a history, stage 6 with a less urgent one inside".into(),
+            self.history_urgent,
+        );
         for (place, call) in ["begin acquisition", "begin release"].iter().enumerate() {
             let right = [0, 13][place];
-            for stage in (0..=18).filter(|stage| *stage != right) {
+            for stage in (0..STAGES).filter(|stage| *stage != right) {
                 let hits = self.wrong_stage[place][stage];
                 add(format!("{call} refused 4 at stage {stage}"), hits);
             }
@@ -325,6 +348,9 @@ impl Coverage {
                 if let Some(place) = self.step(&sheet, *p, refused) {
                     self.rows[place] += 1;
                     self.history_rows[place] += in_history;
+                    if STAGE_TABLE[place].stage == 6 && urgent(&sheet, *p as u16) {
+                        self.history_urgent += in_history;
+                    }
                 }
             }
             Call::TakeLog { buffer } => {
@@ -484,6 +510,7 @@ impl Coverage {
                 self.odd_if(Odd::Same3, !own.closed());
                 self.odd_if(Odd::LogTo256By3, sheet.log_length() == 255);
                 self.odd_if(Odd::PrevNil3, prev == 0);
+                self.odd_if(Odd::Unraised3, get(Field::RecordPriority) != 255);
                 self.odd_if(Odd::NoEntryLocked3, get(Field::Locked) == 1);
             }
             4 => self.odd_if(Odd::Locked4, get(Field::Locked) == 1),
@@ -502,6 +529,9 @@ impl Coverage {
                     [Odd::Equal6, Odd::OneBelow6, Odd::OwnRecordDiffers6],
                 );
                 self.odd_if(Odd::BelowAndNil6, below && w_pointer == 0);
+                self.odd_if(Odd::InsideBelow6, inside(sheet, prev) && below);
+                let raised = sheet.get(Field::RecordPriority, prev) == 255;
+                self.odd_if(Odd::InsideRaised6, urgent(sheet, me) && raised);
             }
             7 => {
                 self.odd_if(Odd::WPrev7, w_pointer == prev);
@@ -556,9 +586,24 @@ impl Coverage {
                 self.odd_if(Odd::SSelf17, s == me);
                 self.odd_if(Odd::Raised17, sheet.get(Field::RecordPriority, s) == 255);
             }
-            _ => {
+            18 => {
                 self.odd_if(Odd::SSelf18, s == me);
                 self.odd_if(Odd::Freed18, sheet.get(Field::Locked, s) == 0);
+            }
+            _ => {
+                let other = |module: u16| {
+                    module != 0 && module != me && sheet.get(Field::RecordPriority, module) != 255
+                };
+                self.odd_if(Odd::Raised19, get(Field::RecordPriority) == 255);
+                self.odd_if(Odd::PrevNil19, prev == 0);
+                self.odd_if(Odd::PrevOther19, other(prev));
+                self.odd_if(Odd::WNil19, w_pointer == 0);
+                self.odd_if(Odd::SNil19, s == 0);
+                self.odd_if(Odd::SOther19, other(s));
+                self.odd_if(Odd::LockOther19, sheet.lock_word() != me);
+                self.odd_if(Odd::RaisingFull, sheet.log_length() == 256);
+                self.odd_if(Odd::Locked19, get(Field::Locked) == 1);
+                self.odd_if(Odd::Open19, !own.closed());
             }
         }
     }
@@ -621,6 +666,17 @@ impl Coverage {
             _ => {}
         }
     }
+}
+
+/// Whether a module is inside, at stage 13 or 14.
+fn inside(sheet: &Sheet, module: u16) -> bool {
+    (13..=14).contains(&sheet.get(Field::Stage, module))
+}
+
+/// Whether prev is inside and less urgent than this module, by the own priorities of both.
+fn urgent(sheet: &Sheet, me: u16) -> bool {
+    let prev = sheet.get(Field::Prev, me);
+    inside(sheet, prev) && sheet.get(Field::OwnPriority, prev) < sheet.get(Field::OwnPriority, me)
 }
 
 #[cfg(test)]

@@ -46,7 +46,7 @@ const LOCK_WORD: &[&str] = &["the lock word is 0 to n"];
 const W_MARK_RANGE: &[&str] = &["w's mark is 0 or 1"];
 const LINK_MARK_RANGE: &[&str] = &["the link's mark is 0 or 1"];
 const LOCKED_RANGE: &[&str] = &["Locked is 0 or 1"];
-const STAGE_RANGE: &[&str] = &["stage is 0 to 18"];
+const STAGE_RANGE: &[&str] = &[reference::STAGE_RULE];
 const OWN_IDLE: &[&str] = &["own priority is 0 at stage 0"];
 const OWN_BUSY: &[&str] = &["own priority is 1 to 254 elsewhere"];
 const PREV_NIL: &[&str] = &["prev isn't 0 at stages 4 to 10"];
@@ -309,10 +309,12 @@ pub const DAMAGES: &[Damage] = &[
         put(draft, LOCKED, locked)
     }),
     // Stage.
-    one(STAGE_RANGE, "19", |draft, rng| at_stage(draft, rng, 19)),
+    one(STAGE_RANGE, "one above the last", |draft, rng| {
+        at_stage(draft, rng, LAST_STAGE + 1)
+    }),
     one(STAGE_RANGE, "255", |draft, rng| at_stage(draft, rng, 255)),
     one(STAGE_RANGE, "some other", |draft, rng| {
-        let stage = rng.byte(20, 254);
+        let stage = rng.byte(LAST_STAGE + 2, 254);
         at_stage(draft, rng, stage)
     }),
     // Own priority.
@@ -323,11 +325,11 @@ pub const DAMAGES: &[Damage] = &[
         own(draft, rng, 0, priority)
     }),
     one(OWN_BUSY, "0", |draft, rng| {
-        let stage = rng.byte(1, 18);
+        let stage = rng.byte(1, LAST_STAGE);
         own(draft, rng, stage, 0)
     }),
     one(OWN_BUSY, "255", |draft, rng| {
-        let stage = rng.byte(1, 18);
+        let stage = rng.byte(1, LAST_STAGE);
         own(draft, rng, stage, 255)
     }),
     one(OWN_BUSY, "0 at stage 13", |draft, rng| {
@@ -335,6 +337,12 @@ pub const DAMAGES: &[Damage] = &[
     }),
     one(OWN_BUSY, "255 at stage 1", |draft, rng| {
         own(draft, rng, 1, 255)
+    }),
+    one(OWN_BUSY, "0 at stage 19", |draft, rng| {
+        own(draft, rng, 19, 0)
+    }),
+    one(OWN_BUSY, "255 at stage 19", |draft, rng| {
+        own(draft, rng, 19, 255)
     }),
     // What stages ask.
     one(PREV_NIL, "stage 4", |draft, rng| nil(draft, rng, 4, PREV)),

@@ -2,6 +2,8 @@
 
 /// Bytes of one record.
 pub(crate) const RECORD: usize = 16;
+/// The last stage, as a byte of a record.
+pub(crate) const LAST_STAGE: u8 = reference::LAST_STAGE as u8;
 
 // Byte offsets in a record.
 pub(crate) const STAGE: usize = 0;

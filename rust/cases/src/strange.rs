@@ -37,7 +37,7 @@ fn random_module(rng: &mut Rng, n: u8) -> u8 {
 
 fn random_record(rng: &mut Rng, n: u8) -> [u8; RECORD] {
     let mut record = [0; RECORD];
-    record[STAGE] = rng.byte(0, 18);
+    record[STAGE] = rng.byte(0, LAST_STAGE);
     for at in [PREV, W_POINTER, LINK_POINTER, S] {
         record[at] = random_module(rng, n);
     }
@@ -213,7 +213,7 @@ pub fn damaging_draft(rng: &mut Rng) -> Draft {
 
 /// For each stage a strange image of two modules, the one in focus at that stage.
 pub fn small_drafts(rng: &mut Rng) -> Vec<Draft> {
-    (0..=18)
+    (0..=LAST_STAGE)
         .map(|stage| loop {
             let mut draft = strange_draft(rng);
             if draft.n == 2 && draft.focused()[STAGE] == stage {

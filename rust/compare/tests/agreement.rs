@@ -65,7 +65,8 @@ fn counts_wrap_in_a_history_of_their_own() {
     let mut changes = 0_u32;
     while changes < 2 * 65_536 + 10 {
         both(Call::BeginAcquisition { p: 1, priority: 9 });
-        for _ in 0..3 {
+        // Stages 1, 2, 19 and 3.
+        for _ in 0..4 {
             both(Call::Step { p: 1 });
         }
         both(Call::BeginRelease { p: 1 });

@@ -2,7 +2,9 @@
 //! caught within [`LIMIT`] calls, from each of several seeds.
 
 use compare::{drive, Desk, ReferenceDesk, Said};
-use reference::{Act, Place, Row, Rule, Rulebook, Value, When, Whose, RULES, STAGE_TABLE};
+use reference::{
+    Act, Place, Row, Rule, Rulebook, Value, When, Whose, LAST_STAGE, RULES, STAGE_RULE, STAGE_TABLE,
+};
 
 /// Every mutant is caught within this many calls.
 const LIMIT: u64 = 50_000;
@@ -119,7 +121,7 @@ fn altered(name: &str, alter: impl Fn(&mut Row)) -> Box<dyn Desk> {
     })
 }
 
-fn new_row(stage: u16, when: When, does: &'static [Act], next: u16, answer: u8) -> Row {
+const fn new_row(stage: u16, when: When, does: &'static [Act], next: u16, answer: u8) -> Row {
     Row {
         stage,
         name: "",
@@ -132,6 +134,16 @@ fn new_row(stage: u16, when: When, does: &'static [Act], next: u16, answer: u8) 
 
 const S_LOCKED_0: Act = Act::Set(Place::Locked(Whose::S), Value::Number(0));
 const S_RAISED: Act = Act::Set(Place::RecordPriority(Whose::S), Value::Number(255));
+const OWN_RAISED: Act = Act::Set(Place::RecordPriority(Whose::Own), Value::Number(255));
+const LOCK_WORD_ME: Act = Act::Set(Place::LockWord, Value::ThisModule);
+const LOCK_FREE: When = When::Is(Value::LockWord, Value::Number(0));
+const PREV_LOCK_WORD: Row = new_row(
+    2,
+    When::Else,
+    &[Act::Set(Place::Prev, Value::LockWord)],
+    4,
+    0,
+);
 const LOCK_WORD_S: Act = Act::Set(Place::LockWord, Value::S);
 const OWN_0: Act = Act::Set(Place::OwnPriority, Value::Number(0));
 const PREV_W: Act = Act::Set(Place::Prev, Value::WPointer);
@@ -290,15 +302,11 @@ fn table_mutants() -> Vec<Box<dyn Desk>> {
             )],
         ),
         with_rows(
-            "raises itself on taking the free lock",
+            "stage 3 raises the own record too",
             &[new_row(
                 3,
                 When::Always,
-                &[
-                    Act::Open(Whose::Own),
-                    Act::Set(Place::RecordPriority(Whose::Own), Value::Number(255)),
-                    Act::LogAdmission,
-                ],
+                &[Act::Open(Whose::Own), OWN_RAISED, Act::LogAdmission],
                 13,
                 2,
             )],
@@ -330,6 +338,130 @@ fn table_mutants() -> Vec<Box<dyn Desk>> {
         altered("stage 1 is left out on the way back from stage 5", |row| {
             if row.stage == 5 && row.next == 1 {
                 row.next = 2;
+            }
+        }),
+    ]
+}
+
+/// Slips in what R-1 changed: row 2 where it succeeds, and row 19.
+fn raising_mutants() -> Vec<Box<dyn Desk>> {
+    let stage_19 = |name: &str, does: &'static [Act]| {
+        with_rows(
+            &format!("stage 19 {name}"),
+            &[new_row(19, When::Always, does, 3, 0)],
+        )
+    };
+    vec![
+        altered("a success at stage 2 goes on to 3, as before R-1", |row| {
+            if row.stage == 2 && row.next == 19 {
+                row.next = 3;
+            }
+        }),
+        altered("stage 2 goes on to 19 where the lock is taken too", |row| {
+            if row.stage == 2 && row.next == 4 {
+                row.next = 19;
+            }
+        }),
+        with_rows(
+            "takes the free lock and raises itself in one step",
+            &[
+                new_row(2, LOCK_FREE, &[LOCK_WORD_ME, OWN_RAISED], 3, 3),
+                PREV_LOCK_WORD,
+            ],
+        ),
+        with_rows(
+            "raises itself before it has the free lock",
+            &[
+                new_row(2, LOCK_FREE, &[OWN_RAISED], 19, 0),
+                PREV_LOCK_WORD,
+                new_row(19, When::Always, &[LOCK_WORD_ME], 3, 3),
+            ],
+        ),
+        with_rows(
+            "raises itself only after opening its link",
+            &[
+                new_row(2, LOCK_FREE, &[LOCK_WORD_ME], 3, 3),
+                PREV_LOCK_WORD,
+                new_row(3, When::Always, &[Act::Open(Whose::Own)], 19, 0),
+                new_row(19, When::Always, &[OWN_RAISED, Act::LogAdmission], 13, 2),
+            ],
+        ),
+        stage_19(
+            "raises to 254",
+            &[Act::Set(
+                Place::RecordPriority(Whose::Own),
+                Value::Number(254),
+            )],
+        ),
+        stage_19(
+            "raises to own priority",
+            &[Act::Set(
+                Place::RecordPriority(Whose::Own),
+                Value::OwnPriority,
+            )],
+        ),
+        stage_19(
+            "raises prev's record",
+            &[Act::Set(
+                Place::RecordPriority(Whose::Prev),
+                Value::Number(255),
+            )],
+        ),
+        stage_19("raises the successor's record, as 17 does", &[S_RAISED]),
+        stage_19("raises nobody's record", &[]),
+        stage_19(
+            "sets own priority instead of the record's",
+            &[Act::Set(Place::OwnPriority, Value::Number(255))],
+        ),
+        stage_19(
+            "sets Locked to 0 too",
+            &[
+                OWN_RAISED,
+                Act::Set(Place::Locked(Whose::Own), Value::Number(0)),
+            ],
+        ),
+        with_rows(
+            "stage 19 raises only where the lock word is this module",
+            &[
+                new_row(
+                    19,
+                    When::Is(Value::LockWord, Value::ThisModule),
+                    &[OWN_RAISED],
+                    3,
+                    0,
+                ),
+                new_row(19, When::Else, &[], 3, 0),
+            ],
+        ),
+        with_rows(
+            "stage 19 opens, logs and goes to 13",
+            &[new_row(
+                19,
+                When::Always,
+                &[OWN_RAISED, Act::Open(Whose::Own), Act::LogAdmission],
+                13,
+                2,
+            )],
+        ),
+        with_rows(
+            "stage 19 answers 3",
+            &[new_row(19, When::Always, &[OWN_RAISED], 3, 3)],
+        ),
+        with_rows(
+            "stage 19 answers 2",
+            &[new_row(19, When::Always, &[OWN_RAISED], 3, 2)],
+        ),
+        with_rows(
+            "stage 19 goes to 13",
+            &[new_row(19, When::Always, &[OWN_RAISED], 13, 0)],
+        ),
+        with_rows(
+            "stage 19 stays",
+            &[new_row(19, When::Always, &[OWN_RAISED], 19, 0)],
+        ),
+        altered("stage 19 has no step", |row| {
+            if row.stage == 19 {
+                row.stage = LAST_STAGE + 1;
             }
         }),
     ]
@@ -395,9 +527,55 @@ fn rule_mutants() -> Vec<Box<dyn Desk>> {
                 })
             },
         ),
-        with_rule("stage 19 allowed", "stage is 0 to 18", |sheet| {
-            at_stages(sheet, 0..=255, Field::Stage, |stage| stage <= 19)
+        with_rule("one stage more allowed", STAGE_RULE, |sheet| {
+            at_stages(sheet, 0..=255, Field::Stage, |stage| {
+                stage <= LAST_STAGE + 1
+            })
         }),
+        with_rule("the last stage not allowed", STAGE_RULE, |sheet| {
+            at_stages(sheet, 0..=255, Field::Stage, |stage| stage < LAST_STAGE)
+        }),
+        with_rule(
+            "own priority may be 0 or 255 at stage 19",
+            "own priority is 1 to 254 elsewhere",
+            |sheet| {
+                at_stages(sheet, 1..=18, Field::OwnPriority, |own| {
+                    (1..=254).contains(&own)
+                })
+            },
+        ),
+        with_rule(
+            "prev must not be 0 at stage 19 either",
+            "prev isn't 0 at stages 4 to 10",
+            |sheet| {
+                at_stages(sheet, 4..=10, Field::Prev, |prev| prev != 0)
+                    && at_stages(sheet, 19..=19, Field::Prev, |prev| prev != 0)
+            },
+        ),
+        with_rule(
+            "w's pointer must not be 0 at stage 19 either",
+            "w's pointer isn't 0 at stage 7",
+            |sheet| {
+                at_stages(sheet, 7..=7, Field::WPointer, |pointer| pointer != 0)
+                    && at_stages(sheet, 19..=19, Field::WPointer, |pointer| pointer != 0)
+            },
+        ),
+        with_rule(
+            "s must not be 0 at stage 19 either",
+            "s isn't 0 at stages 17 and 18",
+            |sheet| at_stages(sheet, 17..=19, Field::S, |s| s != 0),
+        ),
+        with_rule(
+            "the lock word must be the module at stage 19",
+            "the lock word is 0 to n",
+            |sheet| {
+                let first = sheet.lock_word();
+                !sheet.has_body()
+                    || (u32::from(first) <= sheet.n()
+                        && (1..=sheet.n() as u16)
+                            .all(|module| sheet.get(Field::Stage, module) != 19 || module == first))
+            },
+        ),
         with_rule(
             "prev may be 0 at stage 4",
             "prev isn't 0 at stages 4 to 10",
@@ -1013,6 +1191,39 @@ fn byte_mutants() -> Vec<Slip> {
             ..NONE
         },
         Slip {
+            name: "a full log refuses stage 19 too",
+            step: |image, p| match find(image, p) {
+                Some((_, 19)) if count_at(image, image.len() - 8) == 256 => Said::refused(5),
+                _ => (NONE.step)(image, p),
+            },
+            ..NONE
+        },
+        Slip {
+            name: "stage 19 counts as a change of the link",
+            step: |image, p| {
+                let found = find(image, p);
+                let said = (NONE.step)(image, p);
+                if let Some((at, 19)) = found {
+                    let count = count_at(image, at + LINK_COUNT).wrapping_add(1);
+                    put_count(image, at + LINK_COUNT, count);
+                }
+                said
+            },
+            ..NONE
+        },
+        Slip {
+            name: "begin release clears the raised record priority",
+            begin_release: |image, p| {
+                let said = (NONE.begin_release)(image, p);
+                if !said.refused {
+                    let at = record_at(image, p);
+                    image[at + 12] = image[at + 1];
+                }
+                said
+            },
+            ..NONE
+        },
+        Slip {
             name: "an admission in a full log is let in and not logged",
             step: |image, p| {
                 let said = (NONE.step)(image, p);
@@ -1108,6 +1319,7 @@ fn quiet_about_mutants() {
 fn every_mutant_is_caught() {
     quiet_about_mutants();
     let mut mutants = table_mutants();
+    mutants.extend(raising_mutants());
     mutants.extend(rule_mutants());
     for slip in byte_mutants() {
         mutants.push(Box::new(slip));
@@ -1139,7 +1351,7 @@ fn without_a_slip_nothing_is_caught() {
     let mut none = NONE;
     drive(&mut ReferenceDesk, &mut none, 4, LIMIT).unwrap();
     let mut book = Book {
-        name: "document 01".into(),
+        name: "the papers".into(),
         rules: RULES.to_vec(),
         rows: STAGE_TABLE.to_vec(),
     };

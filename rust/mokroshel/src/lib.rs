@@ -22,14 +22,16 @@
 //! assert_eq!(image.step(1), Err(Refusal::Unsound));
 //! assert_eq!(image.set_up(3), Ok(Answer::Done));
 //!
-//! // Module 1, priority 10: after 3 steps it is inside.
+//! // Module 1, priority 10: the lock is free, so after 4 steps it is inside.
 //! assert_eq!(image.begin_acquisition(1, 10), Ok(Answer::Done));
 //! assert_eq!(image.step(1), Ok(Answer::Done));
 //! assert_eq!(image.step(1), Ok(Answer::Joined));
+//! assert_eq!(image.step(1), Ok(Answer::Done));
 //! assert_eq!(image.step(1), Ok(Answer::Admitted(1)));
 //! let bytes = image.bytes();
 //! assert_eq!(bytes[0], 13); // stage
 //! assert_eq!(bytes[8..12], [0, 0, 0, 2]); // link: nil, open, count 2
+//! assert_eq!(bytes[12], 255); // record priority, raised while it is the first
 //! assert_eq!(bytes[bytes.len() - 12], 1); // lock word
 //!
 //! // With nobody behind it, a release is 3 steps.

@@ -21,7 +21,7 @@ fn every_number() {
     assert_eq!(number(image.begin_acquisition(1, 0)), -3);
     assert_eq!(number(image.begin_acquisition(1, 254)), 0);
     assert_eq!(number(image.begin_release(1)), -4);
-    assert_eq!([0; 3].map(|_| number(image.step(1))), [0, 3, 2]);
+    assert_eq!([0; 4].map(|_| number(image.step(1))), [0, 3, 0, 2]);
     assert_eq!(number(image.begin_acquisition(2, 1)), 0);
     let behind = [0; 9].map(|_| number(image.step(2)));
     assert_eq!(behind, [0, 0, 0, 0, 0, 0, 3, 0, 1]);

@@ -3,8 +3,8 @@
 //! What one would write for speed and clarity: the image is checked in place with early returns,
 //! then one match on the stage edits bytes in place. The package `plain_block` is the same source
 //! with one trick: it compares the log's rest with zeros as a block. It makes the same checks as every other
-//! implementation of document 01 and is there to be measured against; its correctness rests on
-//! being driven over the same cases as the reference.
+//! implementation of document 01, with R-1 of document 02, and is there to be measured against; its
+//! correctness rests on being driven over the same cases as the reference.
 //!
 //! The five calls are [`set_up`], [`begin_acquisition`], [`begin_release`], [`step`] and
 //! [`take_log`]; [`turns`] is the program of the same name.
@@ -18,6 +18,7 @@
 //! assert_eq!(plain::begin_acquisition(&mut image, 1, 10), Ok(Answer::Done));
 //! assert_eq!(plain::step(&mut image, 1), Ok(Answer::Done));
 //! assert_eq!(plain::step(&mut image, 1), Ok(Answer::Joined));
+//! assert_eq!(plain::step(&mut image, 1), Ok(Answer::Done));
 //! assert_eq!(plain::step(&mut image, 1), Ok(Answer::Admitted(1)));
 //! ```
 
@@ -27,6 +28,7 @@ const RECORD: usize = 16;
 const LOG: usize = 256;
 const TRAILER: usize = 12;
 const MAX_MODULES: u32 = 64;
+const LAST_STAGE: u8 = 19;
 
 // Offsets in a record.
 const STAGE: usize = 0;
@@ -164,7 +166,7 @@ fn record_is_sound(record: &Record, n: u8) -> bool {
         4..=6 | 8..=10 => record[PREV] != 0,
         7 => record[PREV] != 0 && record[W_POINTER] != 0,
         17 | 18 => record[S] != 0,
-        _ => stage <= 18,
+        _ => stage <= LAST_STAGE,
     }
 }
 
@@ -269,7 +271,7 @@ impl<'a> Desk<'a> {
             2 => match self.trailer[LOCK_WORD] {
                 0 => {
                     self.trailer[LOCK_WORD] = me;
-                    (3, Answer::Joined)
+                    (19, Answer::Joined)
                 }
                 first => {
                     own[PREV] = first;
@@ -378,6 +380,10 @@ impl<'a> Desk<'a> {
                 self.record(s)[LOCKED] = 0;
                 self.record(me)[OWN_PRIORITY] = 0;
                 (0, Answer::ReleaseFinished)
+            }
+            19 => {
+                own[RECORD_PRIORITY] = 255;
+                (3, Answer::Done)
             }
             _ => return Err(Refusal::Stage),
         };

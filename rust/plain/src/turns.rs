@@ -132,8 +132,8 @@ mod tests {
 
     #[test]
     fn the_listing() {
-        let input = "n 1\na 1 10\ns 1\ns 1\ns 1\nr 1\ns 1\ns 1\ns 1\n";
-        let expected = "0\n0\n0\n3\n2\n0\n4\n0\n5\nlock 0\nlog 1\n";
+        let input = "n 1\na 1 10\ns 1\ns 1\ns 1\ns 1\nr 1\ns 1\ns 1\ns 1\n";
+        let expected = "0\n0\n0\n3\n0\n2\n0\n4\n0\n5\nlock 0\nlog 1\n";
         assert_eq!(turns(input), expected);
         // The last newline may lack.
         assert_eq!(turns(input.trim_end()), expected);
@@ -232,7 +232,7 @@ mod tests {
     #[test]
     fn lines_across_the_edges_of_small_buffers() {
         let input: &[u8] =
-            b"n 3\na 1 10\ns 1\ns 1\ns 1\nthis line is far too long to be one\na 2 5\n\ns 2\nr 1";
+            b"n 3\na 1 10\ns 1\ns 1\ns 1\ns 1\nthis line is far too long to be one\na 2 5\n\ns 2\nr 1";
         let expected = turns(input);
         for capacity in 1..40 {
             let mut output = Vec::new();
@@ -241,20 +241,20 @@ mod tests {
         }
         assert_eq!(
             expected,
-            "0\n0\n0\n3\n2\nx 9\n0\nx 9\n0\n0\nlock 1\nlog 1\n"
+            "0\n0\n0\n3\n0\n2\nx 9\n0\nx 9\n0\n0\nlock 1\nlog 1\n"
         );
     }
 
     #[test]
     fn a_line_of_two_and_their_log() {
-        let mut input = String::from("n 3\na 1 10\ns 1\ns 1\ns 1\na 2 5\n");
+        let mut input = String::from("n 3\na 1 10\ns 1\ns 1\ns 1\ns 1\na 2 5\n");
         input += &"s 2\n".repeat(9);
         input += "r 1\n";
         input += &"s 1\n".repeat(5);
         input += "s 2\n";
         assert_eq!(
             turns(&input),
-            "0\n0\n0\n3\n2\n0\n0\n0\n0\n0\n0\n0\n3\n0\n1\n0\n4\n0\n0\n0\n5\n2\nlock 2\nlog 1 2\n"
+            "0\n0\n0\n3\n0\n2\n0\n0\n0\n0\n0\n0\n0\n3\n0\n1\n0\n4\n0\n0\n0\n5\n2\nlock 2\nlog 1 2\n"
         );
         // A new set-up starts a new history.
         input += "n 2\n";
@@ -262,11 +262,25 @@ mod tests {
     }
 
     #[test]
+    fn the_urgent_one_joins() {
+        let mut input = String::from("n 3\na 1 10\ns 1\ns 1\ns 1\ns 1\na 3 20\n");
+        input += &"s 3\n".repeat(9);
+        input += "r 1\n";
+        input += &"s 1\n".repeat(5);
+        input += "s 3\n";
+        assert_eq!(
+            turns(&input),
+            "0\n0\n0\n3\n0\n2\n0\n0\n0\n0\n0\n0\n0\n3\n0\n1\n0\n4\n0\n0\n0\n5\n2\nlock 3\nlog 1 3\n"
+        );
+    }
+
+    #[test]
     fn a_full_log() {
-        let round = "a 64 1\ns 64\ns 64\ns 64\nr 64\ns 64\ns 64\ns 64\n";
-        let input = format!("n 64\n{}a 64 1\ns 64\ns 64\ns 64\n", round.repeat(256));
+        let enter = "a 64 1\ns 64\ns 64\ns 64\ns 64\n";
+        let round = format!("{enter}r 64\ns 64\ns 64\ns 64\n");
+        let input = format!("n 64\n{}{enter}", round.repeat(256));
         let output = turns(input);
-        let expected_end = format!("5\n0\n0\n3\nx 5\nlock 64\nlog{}\n", " 64".repeat(256));
+        let expected_end = format!("5\n0\n0\n3\n0\nx 5\nlock 64\nlog{}\n", " 64".repeat(256));
         assert!(output.ends_with(&expected_end));
     }
 }

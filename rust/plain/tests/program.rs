@@ -18,8 +18,8 @@ fn turns_plain(input: &[u8]) -> Vec<u8> {
 #[test]
 fn the_listing_of_turns() {
     assert_eq!(
-        turns_plain(b"n 1\na 1 10\ns 1\ns 1\ns 1\nr 1\ns 1\ns 1\ns 1\n"),
-        b"0\n0\n0\n3\n2\n0\n4\n0\n5\nlock 0\nlog 1\n"
+        turns_plain(b"n 1\na 1 10\ns 1\ns 1\ns 1\ns 1\nr 1\ns 1\ns 1\ns 1\n"),
+        b"0\n0\n0\n3\n0\n2\n0\n4\n0\n5\nlock 0\nlog 1\n"
     );
 }
 

@@ -7,8 +7,8 @@ use crate::Reply;
 
 /// The rules and the rows by which the calls are carried out.
 ///
-/// The calls of this package go by [`DOCUMENT_01`]. Another book, with a rule or a row altered, is
-/// of use only to prove that a comparison would notice.
+/// The calls of this package go by [`RULEBOOK`]. Another book, with a rule or a row altered, is of
+/// use only to prove that a comparison would notice, and to go on as a desk of before a request.
 #[derive(Clone, Copy, Debug)]
 pub struct Rulebook<'a> {
     /// The rules of a sound image.
@@ -17,8 +17,8 @@ pub struct Rulebook<'a> {
     pub rows: &'a [Row],
 }
 
-/// The rules and the stage table of document 01.
-pub const DOCUMENT_01: Rulebook<'static> = Rulebook {
+/// The rules and the stage table of document 01, with R-1 of document 02.
+pub const RULEBOOK: Rulebook<'static> = Rulebook {
     rules: &RULES,
     rows: &STAGE_TABLE,
 };
@@ -172,27 +172,27 @@ impl Rulebook<'_> {
 /// Set up a fresh table of `n` modules. Refusals: 7, n not 1 to 64; 8, buffer shorter than
 /// 16n + 268.
 pub fn set_up(image: &mut [u8], n: u32) -> Reply {
-    DOCUMENT_01.set_up(image, n)
+    RULEBOOK.set_up(image, n)
 }
 
 /// Begin an acquisition. Refusals: 1, image unsound; 2, module number 0 or above n; 3, priority
 /// not 1 to 254; 4, not at stage 0.
 pub fn begin_acquisition(image: &mut [u8], p: u32, priority: u32) -> Reply {
-    DOCUMENT_01.begin_acquisition(image, p, priority)
+    RULEBOOK.begin_acquisition(image, p, priority)
 }
 
 /// Begin a release. Refusals: 1, image unsound; 2, module number 0 or above n; 4, not at stage 13.
 pub fn begin_release(image: &mut [u8], p: u32) -> Reply {
-    DOCUMENT_01.begin_release(image, p)
+    RULEBOOK.begin_release(image, p)
 }
 
 /// Take one step. Refusals: 1, image unsound; 2, module number 0 or above n; 4, at stage 0 or 13;
 /// 5, the step would admit and the log holds 256.
 pub fn step(image: &mut [u8], p: u32) -> Reply {
-    DOCUMENT_01.step(image, p)
+    RULEBOOK.step(image, p)
 }
 
 /// Take the log. Refusals: 1, image unsound; 6, buffer for the log shorter than the log length.
 pub fn take_log(image: &mut [u8], log: &mut [u8]) -> Reply {
-    DOCUMENT_01.take_log(image, log)
+    RULEBOOK.take_log(image, log)
 }

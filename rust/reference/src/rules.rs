@@ -1,6 +1,7 @@
 //! When an image is sound: a list of named rules, each with a predicate of its own.
 
 use crate::sheet::{distance, Field, Sheet, TrailerField, LOG_BYTES, TRAILER_BYTES};
+use crate::stages::LAST_STAGE;
 
 /// One rule of a sound image.
 ///
@@ -18,6 +19,9 @@ pub struct Rule {
 const fn rule(name: &'static str, kept: fn(&Sheet) -> bool) -> Rule {
     Rule { name, kept }
 }
+
+/// The name of the rule on stages, which tells [`LAST_STAGE`].
+pub const STAGE_RULE: &str = "stage is 0 to 19";
 
 /// All rules of a sound image, in the paper's order.
 pub const RULES: [Rule; 25] = [
@@ -84,8 +88,8 @@ pub const RULES: [Rule; 25] = [
     rule("Locked is 0 or 1", |sheet| {
         all(sheet, Field::Locked, |locked| locked <= 1)
     }),
-    rule("stage is 0 to 18", |sheet| {
-        all(sheet, Field::Stage, |stage| stage <= 18)
+    rule(STAGE_RULE, |sheet| {
+        all(sheet, Field::Stage, |stage| stage <= LAST_STAGE)
     }),
     rule("own priority is 0 at stage 0", |sheet| {
         where_stage(

@@ -24,7 +24,7 @@ pub(crate) fn distance(n: u32) -> u64 {
 /// A field of a record.
 #[derive(Clone, Copy, PartialEq, Eq, Debug)]
 pub enum Field {
-    /// The module's stage, 0 to 18.
+    /// The module's stage, 0 to [`LAST_STAGE`](crate::LAST_STAGE).
     Stage,
     /// The module's own priority, private to it.
     OwnPriority,

@@ -136,6 +136,9 @@ const fn row(
     }
 }
 
+/// The last stage: 18 in document 01, 19 since R-1.
+pub const LAST_STAGE: u16 = 19;
+
 const DONE: u8 = 0;
 const WAITING: u8 = 1;
 const ADMITTED: u8 = 2;
@@ -143,11 +146,11 @@ const JOINED: u8 = 3;
 const LEFT: u8 = 4;
 const RELEASE_FINISHED: u8 = 5;
 
-/// The stage table: every outcome of every stage, in the paper's order. Stages 0 and 13 have no
-/// step and so no row.
+/// The stage table: every outcome of every stage, in the papers' order. Stages 0 and 13 have no
+/// step and so no row. Stage 19, which follows a success at stage 2, is R-1's.
 ///
 /// All rows look at the table as it was before the step. A link *found* at stage 9 is prev's link.
-pub const STAGE_TABLE: [Row; 27] = [
+pub const STAGE_TABLE: [Row; 28] = [
     row(
         1,
         "1: own link's pointer := nil, mark stays",
@@ -161,7 +164,7 @@ pub const STAGE_TABLE: [Row; 27] = [
         "2: lock word 0: it becomes this module",
         When::Is(Value::LockWord, NIL),
         &[Act::Set(Place::LockWord, Value::ThisModule)],
-        3,
+        19,
         JOINED,
     ),
     row(
@@ -358,6 +361,17 @@ pub const STAGE_TABLE: [Row; 27] = [
         ],
         0,
         RELEASE_FINISHED,
+    ),
+    row(
+        19,
+        "19: own record priority := 255",
+        When::Always,
+        &[Act::Set(
+            Place::RecordPriority(Whose::Own),
+            Value::Number(255),
+        )],
+        3,
+        DONE,
     ),
 ];
 

@@ -1,9 +1,13 @@
-//! The listing of `turns` and the bench table B1 to B10, with every figure that document 01 gives.
+//! The listing of `turns` and the bench table B1 to B10, with every figure that document 01 gives,
+//! as R-1 of document 02 has changed them.
 
 use reference::{begin_acquisition, begin_release, broken_rules, set_up, step, take_log, Reply};
 
 const OPEN: u8 = 0;
 const CLOSED: u8 = 1;
+
+/// Taking the free lock: the answer of each step and the stage after it.
+const FREE: [(u8, u8); 4] = [(0, 2), (3, 19), (0, 3), (2, 13)];
 
 /// A table at the end of a buffer with owner's bytes in front, looked at by byte offsets of the
 /// paper, not through the package's own columns.
@@ -122,11 +126,11 @@ impl Bench {
         }
     }
 
-    /// B1: module 1, priority 10, 3 steps.
+    /// B1: module 1, priority 10, 4 steps.
     fn b1() -> Bench {
         let mut bench = Bench::fresh(3);
         bench.begin(1, 10);
-        bench.walk(1, &[(0, 2), (3, 3), (2, 13)]);
+        bench.walk(1, &FREE);
         bench
     }
 
@@ -193,6 +197,7 @@ fn the_listing_of_turns() {
     assert_eq!(begin_acquisition(&mut image, 1, 10), Reply::answered(0));
     assert_eq!(step(&mut image, 1), Reply::answered(0));
     assert_eq!(step(&mut image, 1), Reply::answered(3));
+    assert_eq!(step(&mut image, 1), Reply::answered(0));
     assert_eq!(step(&mut image, 1), Reply::admitted(1));
     assert_eq!(begin_release(&mut image, 1), Reply::answered(0));
     assert_eq!(step(&mut image, 1), Reply::answered(4));
@@ -215,9 +220,10 @@ fn b1_taking_the_free_lock() {
     assert_eq!(bench.log(), [1]);
     assert_eq!(
         bench.record_priority(1),
-        10,
-        "a module that takes a free lock keeps its ordinary record priority"
+        255,
+        "a module that takes a free lock raises its record"
     );
+    assert_eq!(bench.record(1)[1], 10, "its own priority stays");
 }
 
 #[test]
@@ -249,7 +255,7 @@ fn b4_releasing_to_the_successor() {
     // What a row doesn't name keeps its value: record 1 keeps all but stage and own priority.
     assert_eq!(
         bench.record(1),
-        [0, 0, 0, 0, 0, 0, 0, 0, 3, 1, 0, 5, 10, 0, 3, 0]
+        [0, 0, 0, 0, 0, 0, 0, 0, 3, 1, 0, 5, 255, 0, 3, 0]
     );
     bench.walk(3, &[(2, 13)]);
     assert_eq!(bench.log(), [1, 3]);
@@ -299,14 +305,50 @@ fn b6_reading_a_joiner_that_is_still_closed() {
 }
 
 #[test]
-fn b7_the_urgent_one_circles() {
+fn b7_the_urgent_one_joins() {
     let mut bench = Bench::b1();
     bench.begin(3, 20);
-    for _ in 0..3 {
-        bench.walk(3, &[(0, 2), (0, 4), (0, 5), (0, 6), (0, 1)]);
-        assert_eq!(bench.stage(1), 13);
+    bench.walk(
+        3,
+        &[
+            (0, 2),
+            (0, 4),
+            (0, 5),
+            (0, 6),
+            (0, 8),
+            (0, 9),
+            (3, 11),
+            (0, 12),
+            (1, 12),
+        ],
+    );
+    assert_eq!(bench.stage(1), 13);
+    assert_eq!(bench.line(), [1, 3]);
+    assert_eq!(bench.link(1), (3, OPEN, 3));
+    assert_eq!(bench.link(3), (0, OPEN, 3));
+    // One that is less urgent stands behind it.
+    bench.begin(2, 15);
+    while bench.stage(2) != 12 {
+        bench.step(2);
     }
-    assert_eq!(bench.line(), [1]);
+    assert_eq!(bench.line(), [1, 3, 2]);
+}
+
+#[test]
+fn the_urgent_one_starts_over_until_the_first_is_raised_and_open() {
+    // Module 1 has the lock, and is at 19, then at 3: its link is closed.
+    let mut bench = Bench::fresh(3);
+    bench.begin(1, 10);
+    bench.begin(3, 20);
+    bench.walk(1, &FREE[..2]);
+    bench.walk(3, &[(0, 2), (0, 4), (0, 5), (0, 1)]);
+    assert_eq!(bench.record_priority(1), 10);
+    bench.walk(1, &FREE[2..3]);
+    assert_eq!(bench.record_priority(1), 255);
+    bench.walk(3, &[(0, 2), (0, 4), (0, 5), (0, 1)]);
+    assert_eq!(bench.log(), []);
+    bench.walk(1, &FREE[3..]);
+    bench.walk(3, &[(0, 2), (0, 4), (0, 5), (0, 6), (0, 8)]);
 }
 
 #[test]
@@ -365,7 +407,12 @@ fn a_release_takes_3_own_steps_or_5() {
     assert_eq!(bench.lock(), 0);
     assert_eq!(bench.link(1), (0, CLOSED, 3));
     bench.begin(1, 4);
-    bench.walk(1, &[(0, 2), (3, 3), (2, 13)]);
+    assert_eq!(
+        bench.record_priority(1),
+        4,
+        "raised no longer once it begins again"
+    );
+    bench.walk(1, &FREE);
     assert_eq!(
         bench.link(1),
         (0, OPEN, 5),
@@ -385,7 +432,7 @@ fn a_joiner_that_comes_too_late_starts_over() {
     bench.walk(2, &[(0, 1)]);
     assert_eq!(bench.w(2), (0, CLOSED, 3), "w := found");
     bench.walk(1, &[(0, 16), (5, 0)]);
-    bench.walk(2, &[(0, 2), (3, 3), (2, 13)]);
+    bench.walk(2, &FREE);
     assert_eq!(
         bench.record(2)[13],
         1,

@@ -1,6 +1,6 @@
 //! Each refusal number of each call, that the lowest is given, and that nothing changes.
 
-use reference::{begin_acquisition, begin_release, set_up, step, take_log, Reply};
+use reference::{begin_acquisition, begin_release, set_up, step, take_log, Reply, LAST_STAGE};
 
 const MODULES: usize = 3;
 const OWNER: usize = 4;
@@ -92,7 +92,7 @@ fn priorities_out_of_range_are_refused_by_3() {
 
 #[test]
 fn wrong_stages_are_refused_by_4() {
-    for stage in 0..=18 {
+    for stage in 0..=LAST_STAGE as u8 {
         let own = if stage == 0 { 0 } else { 10 };
         let at_stage = image(&[(2, 0, stage), (2, 1, own), (2, 2, 1), (2, 3, 1), (2, 14, 1)]);
         let mut after = at_stage.clone();
@@ -136,6 +136,10 @@ fn a_full_log_refuses_admissions_by_5() {
     let before = waiting.clone();
     assert_eq!(step(&mut waiting, 2), Reply::answered(1));
     assert_eq!(waiting, before);
+    // Nor does raising, though the next step would.
+    let mut raising = with_log(image(&[(2, 0, 19), (2, 1, 10)]), 256);
+    assert_eq!(step(&mut raising, 2), Reply::answered(0));
+    refused(5, &raising, |i| step(i, 2));
     // Taking the log makes its room usable again.
     let mut full = with_log(image(&[(2, 0, 3), (2, 1, 10)]), 256);
     let mut log = [0; 256];

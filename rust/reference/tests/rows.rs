@@ -1,7 +1,7 @@
 //! Every outcome of every stage on images that no history reaches: prev, w's pointer, s and the
 //! lock word may be the module itself, w may be closed, and what a row doesn't name stays.
 
-use reference::{set_up, step, Reply, STAGE_TABLE};
+use reference::{set_up, step, Reply, LAST_STAGE, STAGE_TABLE};
 
 const OPEN: u8 = 0;
 const CLOSED: u8 = 1;
@@ -41,6 +41,13 @@ impl Image {
         self
     }
 
+    fn full(mut self) -> Image {
+        let at = self.0.len();
+        self.0[at - 268..at - 12].fill(1);
+        self.0[at - 12 + 4] = 1;
+        self
+    }
+
     #[track_caller]
     fn steps_to(self, number: u8, expected: Image) {
         assert!(reference::is_sound(&self.0));
@@ -71,7 +78,12 @@ fn stage_1() {
 
 #[test]
 fn stage_2() {
-    Image::at(2).lock(0).steps_to(3, Image::at(3).lock(2));
+    Image::at(2).lock(0).steps_to(3, Image::at(19).lock(2));
+    // The record is not raised yet, nor touched where it is raised already.
+    Image::at(2)
+        .lock(0)
+        .put(2, 12, &[255])
+        .steps_to(3, Image::at(19).lock(2).put(2, 12, &[255]));
     Image::at(2).steps_to(0, Image::at(4).put(2, 2, &[1]));
     // The lock word may be the module itself.
     Image::at(2)
@@ -81,7 +93,11 @@ fn stage_2() {
 
 #[test]
 fn stage_3() {
+    // The record priority stays: 60, as a desk of before R-1 leaves it, or 255.
     Image::at(3).steps_to(2, Image::at(13).put(2, 9, &[OPEN, 3, 5]).logged(2));
+    Image::at(3)
+        .put(2, 12, &[255])
+        .steps_to(2, Image::at(13).put(2, 9, &[OPEN, 3, 5, 255]).logged(2));
     Image::at(3)
         .put(2, 9, &[OPEN])
         .steps_to(2, Image::at(13).put(2, 9, &[OPEN, 3, 5]).logged(2));
@@ -291,8 +307,34 @@ fn stage_18() {
 }
 
 #[test]
+fn stage_19() {
+    Image::at(19).steps_to(0, Image::at(3).put(2, 12, &[255]));
+    // Whatever it was: 0, own priority, or 255 already.
+    for priority in [0, 50, 254, 255] {
+        Image::at(19)
+            .put(2, 12, &[priority])
+            .steps_to(0, Image::at(3).put(2, 12, &[255]));
+    }
+    // Nobody else's record, link or own priority: prev and s are another module, the module itself,
+    // or nil; w's pointer may be nil, and the lock word another's, or nil.
+    for other in [0, 2, 3] {
+        let names = |image: Image| {
+            image
+                .put(2, 2, &[other, 0])
+                .put(2, 14, &[other])
+                .lock(other)
+        };
+        names(Image::at(19)).steps_to(0, names(Image::at(3)).put(2, 12, &[255]));
+    }
+    // It admits nobody, so a full log is no hindrance.
+    Image::at(19)
+        .full()
+        .steps_to(0, Image::at(3).put(2, 12, &[255]).full());
+}
+
+#[test]
 fn the_table_has_every_stage_with_a_step() {
-    for stage in 0..=18 {
+    for stage in 0..=LAST_STAGE {
         let rows = STAGE_TABLE.iter().filter(|row| row.stage == stage).count();
         assert_eq!(rows == 0, stage == 0 || stage == 13, "stage {stage}");
     }

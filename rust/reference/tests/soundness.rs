@@ -1,6 +1,6 @@
 //! Each rule of a sound image, broken on each side, and kept at its very edge.
 
-use reference::{broken_rules, set_up, Reply, RULES};
+use reference::{broken_rules, set_up, Reply, LAST_STAGE, RULES, STAGE_RULE};
 
 const MODULES: usize = 3;
 
@@ -212,7 +212,7 @@ fn pointers_and_marks_in_every_record() {
 
 #[test]
 fn stages_and_what_they_ask() {
-    for stage in 0..=18 {
+    for stage in 0..=19 {
         sound(&at(stage));
         // Own priority.
         if stage == 0 {
@@ -245,9 +245,14 @@ fn stages_and_what_they_ask() {
             sound(&at_but(stage, 14, 0));
         }
     }
-    for stage in [19, 20, 25, 128, 255] {
-        breaks("stage is 0 to 18", &at(stage));
+    for stage in [20, 21, 25, 128, 255] {
+        breaks("stage is 0 to 19", &at(stage));
     }
+}
+
+#[test]
+fn the_rule_on_stages_tells_the_last_one() {
+    assert_eq!(STAGE_RULE, format!("stage is 0 to {LAST_STAGE}"));
 }
 
 #[test]
