@@ -143,306 +143,159 @@ pub fn looks_at(me: Private, p: u8) -> u8
 }
 
 // One step of the module p: the row of its stage. At 0 and 13, and at a number that is no stage, there is none.
-pub fn step(p: u8, mut me: Private, mut its: Shared, lock: u8) -> Stepped
+pub fn step(p: u8, me: Private, its: Shared, mut lock: u8) -> Stepped
     ensures { λ r. ⌜ r ≡ stepped (next size) p me its lock ⌝ }
 {
     let stage = me.stage;
-    match stage {
-        0 => Stepped {
-            me,
-            its,
-            lock,
-            answer: Answer::DONE,
-        },
+    let mut next = stage;
+    let mut own = me.own;
+    let mut prev = me.prev;
+    let mut w = me.w;
+    let mut s = me.s;
+    let mut link = its.link;
+    let mut priority = its.priority;
+    let mut locked = its.locked;
+    let answer = match stage {
+        0 => Answer::DONE,
         1 => {
-            its.link = its.link.point(0);
-            me.stage = 2;
-            Stepped {
-                me,
-                its,
-                lock,
-                answer: Answer::DONE,
-            }
+            link = link.point(0);
+            next = 2;
+            Answer::DONE
         }
         2 => {
             if lock == 0 {
-                me.stage = 19;
-                return Stepped {
-                    me,
-                    its,
-                    lock: p,
-                    answer: Answer::JOINED,
-                };
-            }
-            me.prev = lock;
-            me.stage = 4;
-            Stepped {
-                me,
-                its,
-                lock,
-                answer: Answer::DONE,
+                lock = p;
+                next = 19;
+                Answer::JOINED
+            } else {
+                prev = lock;
+                next = 4;
+                Answer::DONE
             }
         }
         3 => {
-            its.link = its.link.open();
-            me.stage = 13;
-            Stepped {
-                me,
-                its,
-                lock,
-                answer: Answer::admitted(p),
-            }
+            link = link.open();
+            next = 13;
+            Answer::admitted(p)
         }
         4 => {
-            its.locked = 1;
-            me.stage = 5;
-            Stepped {
-                me,
-                its,
-                lock,
-                answer: Answer::DONE,
-            }
+            locked = 1;
+            next = 5;
+            Answer::DONE
         }
         5 => {
-            let read = its.link;
-            me.w = read;
-            if read.mark == link::CLOSED {
-                me.stage = 1;
-                return Stepped {
-                    me,
-                    its,
-                    lock,
-                    answer: Answer::DONE,
-                };
-            }
-            me.stage = 6;
-            Stepped {
-                me,
-                its,
-                lock,
-                answer: Answer::DONE,
-            }
+            w = link;
+            next = if link.mark == link::CLOSED { 1 } else { 6 };
+            Answer::DONE
         }
         6 => {
-            let ahead = its.priority;
-            if ahead < me.own {
-                me.stage = 1;
-                return Stepped {
-                    me,
-                    its,
-                    lock,
-                    answer: Answer::DONE,
-                };
-            }
-            if me.w.pointer == 0 {
-                me.stage = 8;
-                return Stepped {
-                    me,
-                    its,
-                    lock,
-                    answer: Answer::DONE,
-                };
-            }
-            me.stage = 7;
-            Stepped {
-                me,
-                its,
-                lock,
-                answer: Answer::DONE,
-            }
+            next = if priority < own {
+                1
+            } else if w.pointer == 0 {
+                8
+            } else {
+                7
+            };
+            Answer::DONE
         }
         7 => {
-            let next = its.priority;
-            if next < me.own {
-                me.stage = 8;
-                return Stepped {
-                    me,
-                    its,
-                    lock,
-                    answer: Answer::DONE,
-                };
+            if priority < own {
+                next = 8;
+            } else {
+                prev = w.pointer;
+                next = 5;
             }
-            me.prev = me.w.pointer;
-            me.stage = 5;
-            Stepped {
-                me,
-                its,
-                lock,
-                answer: Answer::DONE,
-            }
+            Answer::DONE
         }
         8 => {
-            its.link = its.link.point(me.w.pointer);
-            me.stage = 9;
-            Stepped {
-                me,
-                its,
-                lock,
-                answer: Answer::DONE,
-            }
+            link = link.point(w.pointer);
+            next = 9;
+            Answer::DONE
         }
-        9 => {
-            let swapped = its.link.swap(me.w, p);
-            match swapped {
-                Swapped::Done(now) => {
-                    its.link = now;
-                    me.stage = 11;
-                    Stepped {
-                        me,
-                        its,
-                        lock,
-                        answer: Answer::JOINED,
-                    }
-                }
-                Swapped::Failed(found) => {
-                    me.w = found;
-                    if found.mark == link::CLOSED {
-                        me.stage = 1;
-                        return Stepped {
-                            me,
-                            its,
-                            lock,
-                            answer: Answer::DONE,
-                        };
-                    }
-                    me.stage = 10;
-                    Stepped {
-                        me,
-                        its,
-                        lock,
-                        answer: Answer::DONE,
-                    }
-                }
+        9 => match link.swap(w, p) {
+            Swapped::Done(now) => {
+                link = now;
+                next = 11;
+                Answer::JOINED
             }
-        }
+            Swapped::Failed(found) => {
+                w = found;
+                next = if found.mark == link::CLOSED { 1 } else { 10 };
+                Answer::DONE
+            }
+        },
         10 => {
-            let still = its.priority;
-            if still < me.own {
-                me.stage = 1;
-                return Stepped {
-                    me,
-                    its,
-                    lock,
-                    answer: Answer::DONE,
-                };
-            }
-            me.stage = 5;
-            Stepped {
-                me,
-                its,
-                lock,
-                answer: Answer::DONE,
-            }
+            next = if priority < own { 1 } else { 5 };
+            Answer::DONE
         }
         11 => {
-            its.link = its.link.open();
-            me.stage = 12;
-            Stepped {
-                me,
-                its,
-                lock,
-                answer: Answer::DONE,
-            }
+            link = link.open();
+            next = 12;
+            Answer::DONE
         }
         12 => {
-            if its.locked == 0 {
-                me.stage = 13;
-                return Stepped {
-                    me,
-                    its,
-                    lock,
-                    answer: Answer::admitted(p),
-                };
-            }
-            Stepped {
-                me,
-                its,
-                lock,
-                answer: Answer::WAITING,
+            if locked == 0 {
+                next = 13;
+                Answer::admitted(p)
+            } else {
+                Answer::WAITING
             }
         }
-        13 => Stepped {
-            me,
-            its,
-            lock,
-            answer: Answer::DONE,
-        },
+        13 => Answer::DONE,
         14 => {
-            its.link = its.link.close();
-            me.stage = 15;
-            Stepped {
-                me,
-                its,
-                lock,
-                answer: Answer::LEFT,
-            }
+            link = link.close();
+            next = 15;
+            Answer::LEFT
         }
         15 => {
-            me.s = its.link.pointer;
-            me.stage = 16;
-            Stepped {
-                me,
-                its,
-                lock,
-                answer: Answer::DONE,
-            }
+            s = link.pointer;
+            next = 16;
+            Answer::DONE
         }
         16 => {
-            if me.s == 0 {
-                me.own = 0;
-                me.stage = 0;
-                return Stepped {
-                    me,
-                    its,
-                    lock: me.s,
-                    answer: Answer::FINISHED,
-                };
-            }
-            me.stage = 17;
-            Stepped {
-                me,
-                its,
-                lock: me.s,
-                answer: Answer::DONE,
+            lock = s;
+            if s == 0 {
+                own = 0;
+                next = 0;
+                Answer::FINISHED
+            } else {
+                next = 17;
+                Answer::DONE
             }
         }
         17 => {
-            its.priority = 255; // the record of s
-            me.stage = 18;
-            Stepped {
-                me,
-                its,
-                lock,
-                answer: Answer::DONE,
-            }
+            priority = 255; // of s
+            next = 18;
+            Answer::DONE
         }
         18 => {
-            its.locked = 0;
-            me.own = 0;
-            me.stage = 0;
-            Stepped {
-                me,
-                its,
-                lock,
-                answer: Answer::FINISHED,
-            }
+            locked = 0; // of s
+            own = 0;
+            next = 0;
+            Answer::FINISHED
         }
         19 => {
-            its.priority = 255; // its own record
-            me.stage = 3;
-            Stepped {
-                me,
-                its,
-                lock,
-                answer: Answer::DONE,
-            }
+            priority = 255; // its own
+            next = 3;
+            Answer::DONE
         }
-        _ => Stepped {
-            me,
-            its,
-            lock,
-            answer: Answer::DONE,
+        _ => Answer::DONE,
+    };
+    Stepped {
+        me: Private {
+            stage: next,
+            own,
+            prev,
+            w,
+            s,
         },
+        its: Shared {
+            link,
+            priority,
+            locked,
+        },
+        lock,
+        answer,
     }
 }
 
