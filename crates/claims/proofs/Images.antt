@@ -13,7 +13,7 @@ use Rattle.link.specs.Count.{next, size}
 use Rattle.stage.proofs.Refusing.{Unrefused, refused-or, refusing-map, is-within}
 use Rattle.stage.proofs.SoundCalls.{Soundly, looks-known, accepted-sound, table-tests}
 use Rattle.stage.proofs.Update.{upd-all}
-use Rattle.stage.specs.Calls.{Call, setUp, beginAcquisition, beginRelease, step, takeLog, within, refusals, refusing, answered, after, called}
+use Rattle.stage.specs.Calls.{Call, setUp, beginAcquisition, beginRelease, step, takeLog, looks, within, refusals, refusing, answered, after, called}
 use Rattle.stage.specs.Rows.{looksAt}
 use Rattle.stage.specs.Table.{Table, upd, idle, untouched, freshTable, begunAcquisition, begunRelease, afterStep, logTaken}
 use Rattle.stage.specs.declared.Reply.{Reply}
@@ -23,7 +23,7 @@ use Rattle.layout.specs.Layout.{lengthFor, read, put}
 use Rattle.soundness.specs.SoundImage.{sound}
 use Rattle.image.proofs.Sound as Sound
 use Rattle.image.proofs.Sound.{put-sound}
-use Rattle.image.specs.Call.{looks, fits, refused, reply, image}
+use Rattle.image.specs.Call.{fits, refused, reply, image}
 
 -- what stands outside 1 to n stays where a module's part is changed
 outside : {A : Type 0} (f : ℕ → A) (n p : ℕ) (v other : A) → 1 ≤ p → p ≤ n

@@ -1,24 +1,16 @@
 -- The five calls on an image: refuse by number, or the machine's call between reading and writing. Document 01, "What a call says".
 use Prim.Native.Nat.{ℕ}
 use mathlib.Core.Path.{_≡_}
-use mathlib.Core.Bool.{Bool, true, false, cond, not, _&&_}
+use mathlib.Core.Bool.{Bool, cond, not, _&&_}
 use mathlib.Core.List.{List, [], _∷_, _++_}
 use lib.Dec.{leb}
 use lib.ListN.{length, drop}
 use Rattle.link.specs.Count.{next, size}
-use Rattle.stage.specs.Calls.{Call, setUp, beginAcquisition, beginRelease, step, takeLog, refusals, refusing, answered, after}
+use Rattle.stage.specs.Calls.{Call, takeLog, looks, refusals, refusing, answered, after}
 use Rattle.stage.specs.declared.Reply.{Reply}
 use Rattle.stage.specs.declared.Reply.the-variants.{Refused, Answered}
 use Rattle.layout.specs.Layout.{lengthFor, read, put}
 use Rattle.soundness.specs.SoundImage.{sound}
-
--- "image unsound (every call but set-up, which looks at no earlier byte)"
-abbrev pub looks : Call → Bool
-looks (setUp k) = false
-looks (beginAcquisition p r) = true
-looks (beginRelease p) = true
-looks (step p) = true
-looks (takeLog room) = true
 
 -- "set-up buffer shorter than 16n + 268"
 abbrev pub fits : List ℕ → ℕ → Bool

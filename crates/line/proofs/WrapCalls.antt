@@ -141,24 +141,16 @@ module _ (m : ℕ) where
         (λ i. cond test (unraised-wraps p t′ i) (wrap t′)) ∙ sym (cond-map wrap test (unraised p t′) t′)
     left-wraps (takeLog room) t′ = refl
 
-    sound-wraps : (c : Call) → soundBefore c (wrap t) ≡ soundBefore c t
-    unfolding soundBefore
-    sound-wraps (setUp k) = refl
-    sound-wraps (beginAcquisition p r) = refl
-    sound-wraps (beginRelease p) = refl
-    sound-wraps (step p) = refl
-    sound-wraps (takeLog room) = refl
-
     abbrev wrapped : Reply × Table → Reply × Table
     wrapped r = (r .0, wrap (r .1))
 
     pub desk-wraps : (before : Bool) (c : Call) → Fair c t → calledBy before (next m) fits c (wrap t) ≡ wrapped (calledBy before suc fits c t)
-    unfolding calledBy
+    unfolding calledBy soundBefore
     desk-wraps before c fair =
         let e = call-wraps c fair in
         let r = called suc fits c t in
         let old : Reply × Table = (r .0, leftBefore c t (r .1)) in
-        (λ i. cond before (cond (sound-wraps c i) (e i .0, leftBefore c (wrap t) (e i .1)) (Refused 1, wrap t)) (e i))
+        (λ i. cond before (cond (soundBefore c t) (e i .0, leftBefore c (wrap t) (e i .1)) (Refused 1, wrap t)) (e i))
         ∙ (λ i. cond before (cond (soundBefore c t) (r .0, left-wraps c (r .1) i) (Refused 1, wrap t)) (wrapped r))
         ∙ ap (λ (k : Reply × Table). cond before k (wrapped r)) (sym (cond-map wrapped (soundBefore c t) old (Refused 1, t)))
         ∙ sym (cond-map wrapped before (cond (soundBefore c t) old (Refused 1, t)) r)

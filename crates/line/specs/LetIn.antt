@@ -1,11 +1,11 @@
 -- Document 02, R-1, "Let the urgent one into the line": what it adds to demand 3; and tables that desks of before R-1 work on too.
 use Prim.Native.Nat.{ℕ, suc}
 use mathlib.Core.Path.{_≡_}
-use mathlib.Core.Bool.{Bool, true, cond, _&&_}
+use mathlib.Core.Bool.{Bool, cond, not, _&&_, _||_}
 use mathlib.Core.List.{List, _∷_}
 use mathlib.Core.Logic.{_≢_}
 use lib.Dec.{eqb, leb}
-use Rattle.stage.specs.Calls.{Call, setUp, beginAcquisition, beginRelease, step, takeLog, called}
+use Rattle.stage.specs.Calls.{Call, setUp, beginAcquisition, beginRelease, step, takeLog, looks, called}
 use Rattle.stage.specs.Rows.{goes}
 use Rattle.stage.specs.Sound.{every}
 use Rattle.stage.specs.Table.{Table, upd}
@@ -34,13 +34,9 @@ leftBefore (beginRelease p) t t′ = t′
 leftBefore (step p) t t′ = cond (eqb (t .private p .stage) 2 && eqb (t′ .private p .stage) 19) (unraised p t′) t′
 leftBefore (takeLog room) t t′ = t′
 
--- "stage is 0 to 18": to it an image with a module at stage 19 is unsound. A set-up asks for no sound image.
+-- "stage is 0 to 18": to it an image with a module at stage 19 is unsound.
 unfoldable pub soundBefore : Call → Table → Bool
-soundBefore (setUp k) t = true
-soundBefore (beginAcquisition p r) t = every (t .n) (λ q. leb (t .private q .stage) 18)
-soundBefore (beginRelease p) t = every (t .n) (λ q. leb (t .private q .stage) 18)
-soundBefore (step p) t = every (t .n) (λ q. leb (t .private q .stage) 18)
-soundBefore (takeLog room) t = every (t .n) (λ q. leb (t .private q .stage) 18)
+soundBefore c t = not (looks c) || every (t .n) (λ q. leb (t .private q .stage) 18)
 
 -- a call by a desk of before R-1, or by one of today
 unfoldable pub calledBy : Bool → (ℕ → ℕ) → (ℕ → Bool) → Call → Table → Reply × Table
