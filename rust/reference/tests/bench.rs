@@ -9,6 +9,18 @@ const CLOSED: u8 = 1;
 /// Taking the free lock: the answer of each step and the stage after it.
 const FREE: [(u8, u8); 4] = [(0, 2), (3, 19), (0, 3), (2, 13)];
 
+/// Joining behind the only one in the line.
+const BEHIND_ONE: [(u8, u8); 8] = [
+    (0, 2),
+    (0, 4),
+    (0, 5),
+    (0, 6),
+    (0, 8),
+    (0, 9),
+    (3, 11),
+    (0, 12),
+];
+
 /// A table at the end of a buffer with owner's bytes in front, looked at by byte offsets of the
 /// paper, not through the package's own columns.
 struct Bench {
@@ -138,19 +150,7 @@ impl Bench {
     fn b2() -> Bench {
         let mut bench = Bench::b1();
         bench.begin(2, 5);
-        bench.walk(
-            2,
-            &[
-                (0, 2),
-                (0, 4),
-                (0, 5),
-                (0, 6),
-                (0, 8),
-                (0, 9),
-                (3, 11),
-                (0, 12),
-            ],
-        );
+        bench.walk(2, &BEHIND_ONE);
         bench
     }
 
@@ -308,20 +308,8 @@ fn b6_reading_a_joiner_that_is_still_closed() {
 fn b7_the_urgent_one_joins() {
     let mut bench = Bench::b1();
     bench.begin(3, 20);
-    bench.walk(
-        3,
-        &[
-            (0, 2),
-            (0, 4),
-            (0, 5),
-            (0, 6),
-            (0, 8),
-            (0, 9),
-            (3, 11),
-            (0, 12),
-            (1, 12),
-        ],
-    );
+    bench.walk(3, &BEHIND_ONE);
+    bench.walk(3, &[(1, 12)]);
     assert_eq!(bench.stage(1), 13);
     assert_eq!(bench.line(), [1, 3]);
     assert_eq!(bench.link(1), (3, OPEN, 3));
