@@ -10,7 +10,6 @@ use Rattle.link.specs.Count.{next, size}
 use Rattle.link.specs.Operations.{OPEN, CLOSED, opened}
 use Rattle.link.specs.declared.Link.{Link}
 use Rattle.stage.specs.Calls.{Call, setUp, beginAcquisition, beginRelease, step, within}
-use Rattle.stage.specs.Rows as Rows
 use Rattle.stage.specs.Rows.{withLink}
 use Rattle.stage.specs.Table.{Table, upd}
 use Rattle.stage.specs.declared.Event.{Event}
@@ -19,6 +18,7 @@ use Rattle.stage.specs.declared.Reply.{Reply}
 use Rattle.stage.specs.declared.Reply.the-variants.{Refused, Answered}
 use Rattle.layout.specs.Layout.{lengthFor, read, put}
 use Rattle.image.specs.Call.{reply, image}
+use Rattle.line.specs.LetIn.{unraised}
 
 abbrev pub nil : ℕ
 nil = 0
@@ -100,12 +100,12 @@ equal (x ∷ xs) [] = false
 equal (x ∷ xs) (y ∷ ys) = eqb x y && equal xs ys
 
 -- What a run tells: a call; what is to be seen, with its figures; for B9, since no run here makes 65,535 changes, that the count of p's link
--- is made k in the image; and for an image that today's calls do not leave, that p's stage is made k.
+-- is made k in the image; and that p, now at stage 19, is as a desk of before R-1 would have left it.
 pub data Told : Type 0 where
   call : Call → Told
   see : Sight → List ℕ → Told
   counts : ℕ → ℕ → Told
-  stages : ℕ → ℕ → Told
+  before : ℕ → Told
 
 unfoldable pub counting : ℕ → ℕ → Table → Table
 counting p k t =
@@ -117,17 +117,13 @@ counting p k t =
       log = t .log;
     }
 
-unfoldable pub staging : ℕ → ℕ → Table → Table
-staging p k t =
-    record { n = t .n; private = upd (t .private) p (Rows.goes k (t .private p)); shared = t .shared; lock = t .lock; log = t .log }
-
 -- all that is to be seen is seen, on the image b, the last call having said r
 unfoldable pub meets : List Told → Reply → List ℕ → Bool
 meets [] r b = true
 meets (call c ∷ others) r b = meets others (reply c b) (image c b)
 meets (see x expected ∷ others) r b = equal (figures x r b) expected && meets others r b
 meets (counts p k ∷ others) r b = meets others r (put (counting p k (read b)) b)
-meets (stages p k ∷ others) r b = meets others r (put (staging p k (read b)) b)
+meets (before p ∷ others) r b = meets others r (put (unraised p (read b)) b)
 
 -- The words of the rows.
 abbrev pub begins : ℕ → ℕ → List Told
@@ -240,7 +236,8 @@ unfoldable pub B7-before : List Told
 B7-before =
     begins 1 10
     ++ goes 1 (1 ∷ 2 ∷ 19 ∷ [])
-    ++ stages 1 3
+    ++ before 1
+    ∷ see (stage 1) (3 ∷ [])
     ∷ steps 1 1
     ++ see answer (2 ∷ 1 ∷ [])
     ∷ begins 3 20

@@ -13,7 +13,7 @@ use Rattle.link.specs.Count.{next, size}
 use Rattle.stage.proofs.Refusing.{Unrefused, refused-or, refusing-map, is-within}
 use Rattle.stage.proofs.SoundCalls.{Soundly, looks-known, accepted-sound, table-tests}
 use Rattle.stage.proofs.Update.{upd-all}
-use Rattle.stage.specs.Calls.{Call, setUp, beginAcquisition, beginRelease, step, takeLog, looks, within, refusals, refusing, answered, after, called}
+use Rattle.stage.specs.Calls.{Call, setUp, beginAcquisition, beginRelease, step, takeLog, asksSound, within, refusals, refusing, answered, after, called}
 use Rattle.stage.specs.Rows.{looksAt}
 use Rattle.stage.specs.Table.{Table, upd, idle, untouched, freshTable, begunAcquisition, begunRelease, afterStep, logTaken}
 use Rattle.stage.specs.declared.Reply.{Reply}
@@ -110,7 +110,7 @@ module _ (long : ℕ) (s : List ℕ) (t : Table) (shows : Shows long s t) (c : C
   refused-is : refused c s ≡ (false, 1) ∷ tests
   unfolding refused
   refused-is =
-      λ i. (no-right (looks c) (not (sound s)) (ap not (shows .is)) i, 1)
+      λ i. (no-right (asksSound c) (not (sound s)) (ap not (shows .is)) i, 1)
       ∷ refusals (next size) (λ k. leb (lengthFor k) (shows .length-is i)) c (shows .table i)
 
   pub says-is : reply c s ≡ called (next size) room c t .0

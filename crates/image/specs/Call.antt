@@ -6,7 +6,7 @@ use mathlib.Core.List.{List, [], _∷_, _++_}
 use lib.Dec.{leb}
 use lib.ListN.{length, drop}
 use Rattle.link.specs.Count.{next, size}
-use Rattle.stage.specs.Calls.{Call, takeLog, looks, refusals, refusing, answered, after}
+use Rattle.stage.specs.Calls.{Call, takeLog, asksSound, refusals, refusing, answered, after}
 use Rattle.stage.specs.declared.Reply.{Reply}
 use Rattle.stage.specs.declared.Reply.the-variants.{Refused, Answered}
 use Rattle.layout.specs.Layout.{lengthFor, read, put}
@@ -18,7 +18,7 @@ fits b k = leb (lengthFor k) (length b)
 
 -- all that a call on the image b may be refused for, with the number given
 unfoldable pub refused : Call → List ℕ → List (Bool × ℕ)
-refused c b = (looks c && not (sound b), 1) ∷ refusals (next size) (fits b) c (read b)
+refused c b = (asksSound c && not (sound b), 1) ∷ refusals (next size) (fits b) c (read b)
 
 -- what a call on the image b says
 unfoldable pub reply : Call → List ℕ → Reply

@@ -5,7 +5,7 @@ use mathlib.Core.Bool.{Bool, cond, not, _&&_, _||_}
 use mathlib.Core.List.{List, _∷_}
 use mathlib.Core.Logic.{_≢_}
 use lib.Dec.{eqb, leb}
-use Rattle.stage.specs.Calls.{Call, setUp, beginAcquisition, beginRelease, step, takeLog, looks, called}
+use Rattle.stage.specs.Calls.{Call, setUp, beginAcquisition, beginRelease, step, takeLog, asksSound, called}
 use Rattle.stage.specs.Rows.{goes}
 use Rattle.stage.specs.Sound.{every}
 use Rattle.stage.specs.Table.{Table, upd}
@@ -36,7 +36,7 @@ leftBefore (takeLog room) t t′ = t′
 
 -- "stage is 0 to 18": to it an image with a module at stage 19 is unsound.
 unfoldable pub soundBefore : Call → Table → Bool
-soundBefore c t = not (looks c) || every (t .n) (λ q. leb (t .private q .stage) 18)
+soundBefore c t = not (asksSound c) || every (t .n) (λ q. leb (t .private q .stage) 18)
 
 -- a call by a desk of before R-1, or by one of today
 unfoldable pub calledBy : Bool → (ℕ → ℕ) → (ℕ → Bool) → Call → Table → Reply × Table

@@ -21,12 +21,12 @@ pub data Call : Type 0 where
   takeLog : ℕ → Call
 
 -- "image unsound (every call but set-up, which looks at no earlier byte)"
-abbrev pub looks : Call → Bool
-looks (setUp k) = false
-looks (beginAcquisition p r) = true
-looks (beginRelease p) = true
-looks (step p) = true
-looks (takeLog room) = true
+abbrev pub asksSound : Call → Bool
+asksSound (setUp k) = false
+asksSound (beginAcquisition p r) = true
+asksSound (beginRelease p) = true
+asksSound (step p) = true
+asksSound (takeLog room) = true
 
 abbrev pub within : ℕ → ℕ → ℕ → Bool
 within a b x = leb a x && leb x b
