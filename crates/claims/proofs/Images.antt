@@ -26,7 +26,7 @@ use Rattle.image.proofs.Sound.{put-sound}
 use Rattle.image.specs.Call.{fits, refused, reply, image}
 
 -- what stands outside 1 to n stays where a module's part is changed
-outside : {A : Type 0} (f : ℕ → A) (n p : ℕ) (v other : A) → 1 ≤ p → p ≤ n
+pub outside : {A : Type 0} (f : ℕ → A) (n p : ℕ) (v other : A) → 1 ≤ p → p ≤ n
     → ((q : ℕ) → within 1 n q ≡ false → f q ≡ other)
     → (q : ℕ) → within 1 n q ≡ false → upd f p v q ≡ other
 outside f n p v other low high all =
@@ -75,7 +75,7 @@ room-after bump long (beginRelease p) t u h = h
 room-after bump long (step p) t u h = h
 room-after bump long (takeLog k) t u h = h
 
-fits-read : (b : List ℕ) → sound b ≡ true → lengthFor (read b .n) ≤ length b
+pub fits-read : (b : List ℕ) → sound b ≡ true → lengthFor (read b .n) ≤ length b
 unfolding read
 fits-read b is = Sound.written b is .fits
 

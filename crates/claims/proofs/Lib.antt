@@ -1,2 +1,3 @@
 pub mod Images
+pub mod Before
 pub mod Promises

@@ -4,10 +4,9 @@ use mathlib.Core.Path.{_≡_}
 use mathlib.Core.Bool.{Bool, true}
 use mathlib.Core.List.{List}
 use lib.ListN.{length}
-use Rattle.link.specs.Count.{next, size}
+use Rattle.link.specs.Count.{size}
 use Rattle.stage.specs.Calls.{Call, setUp}
-use Rattle.stage.specs.Table.{freshTable}
-use Rattle.layout.specs.Layout.{lengthFor, read}
+use Rattle.layout.specs.Layout.{lengthFor, read, put}
 use Rattle.soundness.specs.SoundImage.{sound}
 use Rattle.image.specs.Call.{reply, image}
 use Rattle.line.specs.History.{Desk}
@@ -36,12 +35,11 @@ Relied = OfFresh (λ b. Corollaries.Relied images b size)
 abbrev pub LetIn : Type 0
 LetIn = OfFresh (λ b. R1.LetIn images b size)
 
--- What stands of a table that desks of before R-1 work on too, whichever call is whose: demand 3, and what users rely on besides. (It is said of tables,
--- which images show. That R-1's addition does not stand there is a row of the bench table, B7-before.)
+-- What stands where desks of before R-1 work on the same image, whichever call is whose: demand 3, and what users rely on besides. (That R-1's
+-- addition does not stand there is a row of the bench table, B7-before.)
 abbrev pub MixedDesks : Type 0
 MixedDesks =
-    (before : ℕ → Bool) (fits : ℕ → Bool) (n : ℕ)
-    → Demand3 (mixed before (next size) fits) (0, freshTable n) size × Corollaries.Relied (mixed before (next size) fits) (0, freshTable n) size
+    (before : ℕ → Bool) → OfFresh (λ b. Demand3 (mixed before images put) (0, b) size × Corollaries.Relied (mixed before images put) (0, b) size)
 
 -- Every call, refused or accepted, with whatever numbers, leaves a sound image sound, reached or not, and the buffer as long as it was.
 abbrev pub StaysSound : Type 0

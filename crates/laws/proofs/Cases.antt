@@ -41,5 +41,10 @@ pub cond-map : {A B : Type 0} (f : A → B) (b : Bool) (x y : A) → f (cond b x
 cond-map f true x y = refl
 cond-map f false x y = refl
 
+-- the same of a choice in a choice
+pub cond-map₂ : {A B : Type 0} (f : A → B) (b c : Bool) (x y z : A) → f (cond b (cond c x y) z) ≡ cond b (cond c (f x) (f y)) (f z)
+cond-map₂ f true c x y z = cond-map f c x y
+cond-map₂ f false c x y z = refl
+
 pub both-are : {a b : Bool} → a ≡ true → b ≡ true → (a && b) ≡ true
 both-are {b = b} e f = ap (λ (x : Bool). x && b) e ∙ f

@@ -4,11 +4,11 @@ use mathlib.Core.Path.{_≡_, refl, sym, ap, subst₂, subst₃, transport}
 use mathlib.Core.Bool.{Bool, false, cond}
 use mathlib.Core.List.{List, [], _∷_}
 use mathlib.Core.Logic.{_≢_}
-use Rattle.stage.specs.Calls.{Call, setUp, beginAcquisition, beginRelease, step, takeLog, called}
-use Rattle.stage.specs.Table.{Table, freshTable}
+use Rattle.stage.specs.Calls.{Call, setUp, beginAcquisition, beginRelease, step, takeLog}
+use Rattle.stage.specs.Table.{Table}
 use Rattle.line.specs.Corollaries.{Corollaries, Relied}
 use Rattle.line.specs.Demand3.{changed, reads, changesSince, InTime, Premise, Inside, Holds, Demand3}
-use Rattle.line.specs.History.{Desk, machine, state, table, transcript, course, taken, takes}
+use Rattle.line.specs.History.{Desk, state, table, transcript, course, taken, takes}
 use Rattle.line.specs.LetIn.{LetIn, calledBy, mixed}
 
 module _ (D E : Desk) (s : D .State) (e : E .State) (tables : (cs : List Call) → table D s cs ≡ table E e cs)
@@ -58,13 +58,15 @@ module _ (D E : Desk) (s : D .State) (e : E .State) (tables : (cs : List Call) �
 abbrev pub never : ℕ → Bool
 never k = false
 
-module _ (bump : ℕ → ℕ) (fits : ℕ → Bool) (n : ℕ) where
-  pub today : (cs : List Call) → table (machine bump fits) (freshTable n) cs ≡ table (mixed never bump fits) (0, freshTable n) cs
+module _ (D : Desk) (write : Table → D .State → D .State) (s : D .State) where
+  same-state : (cs : List Call) → state D s cs ≡ state (mixed never D write) (0, s) cs .1
   unfolding state calledBy
-  today [] = refl
-  today (c ∷ cs) = ap (λ (t : Table). called bump fits c t .1) (today cs)
+  same-state [] = refl
+  same-state (c ∷ cs) = ap (D .leaves c) (same-state cs)
 
-  pub says-today : (c : Call) (cs : List Call)
-      → machine bump fits .says c (state (machine bump fits) (freshTable n) cs) ≡ mixed never bump fits .says c (state (mixed never bump fits) (0, freshTable n) cs)
+  pub today : (cs : List Call) → table D s cs ≡ table (mixed never D write) (0, s) cs
+  today cs = ap (D .shows) (same-state cs)
+
+  pub says-today : (c : Call) (cs : List Call) → D .says c (state D s cs) ≡ mixed never D write .says c (state (mixed never D write) (0, s) cs)
   unfolding calledBy
-  says-today c cs = ap (λ (t : Table). called bump fits c t .0) (today cs)
+  says-today c cs = ap (D .says c) (same-state cs)

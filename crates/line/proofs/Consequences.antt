@@ -13,11 +13,10 @@ use Rattle.stage.specs.declared.Reply.{Reply}
 use Rattle.stage.specs.declared.Reply.the-variants.{Answered}
 use Rattle.line.specs.Corollaries.{OneOf, stepIn, stands, unlessSetUp, standing, stepsNow, ownSteps, leavesNow, succeeded, Corollaries, Relied}
 use Rattle.line.specs.Demand3.{Found}
-use Rattle.line.specs.History.{Desk, Transcript, start, course, heard, accepted, machine, state, table, transcript}
-use Rattle.line.specs.LetIn.{unraised, mixed}
+use Rattle.line.specs.History.{Desk, Transcript, start, course, heard, accepted, state, table, transcript}
+use Rattle.line.specs.LetIn.{unraised}
 use Rattle.line.specs.PlainLine.{modules}
-use Rattle.line.proofs.Alike.{never, today, says-today, relied-alike}
-use Rattle.line.proofs.Desks.{by-desk}
+use Rattle.line.proofs.Desks.{mixedTables, by-desk}
 use Rattle.line.proofs.Holding.{kept-holds}
 use Rattle.line.proofs.Ideal.{Kept, ideal-kept}
 use Rattle.line.proofs.Joiners.{none-stood, under}
@@ -50,7 +49,7 @@ unraised-remembered h t p m = record { stood = m .stood; released = begins h (t 
 
 module _ (fits : ℕ → Bool) (before : ℕ → Bool) (n : ℕ) where
   abbrev Ideal : Desk
-  Ideal = mixed before suc fits
+  Ideal = mixedTables before suc fits
 
   remembered : (cs : List Call) → Remembered (transcript Ideal (0, freshTable n) cs) (table Ideal (0, freshTable n) cs .private)
   unfolding transcript state course heard standing unlessSetUp stepIn stands ownSteps stepsNow succeeded leavesNow freshTable idle start
@@ -95,13 +94,8 @@ corollaries-wrap m {t = t} c =
     back l = transport (found-wraps t m l)
 
 module _ (m : ℕ) (two : 1 < m) (fits : ℕ → Bool) where
-  pub mixed-corollaries : (before : ℕ → Bool) (n : ℕ) → Relied (mixed before (next m) fits) (0, freshTable n) m
-  mixed-corollaries before n cs z =
+  pub modular-corollaries : (before : ℕ → Bool) (n : ℕ) → Relied (mixedTables before (next m) fits) (0, freshTable n) m
+  modular-corollaries before n cs z =
       let f = follows m two fits before n cs z in
       subst₂ Corollaries (sym (f .heard)) (sym (ap (λ (s : ℕ × Table). s .1) (f .same-state)))
       (corollaries-wrap m (corollaries (ideal-kept fits before n cs) (remembered fits before n cs)))
-
-  pub modular-corollaries : (n : ℕ) → Relied (machine (next m) fits) (freshTable n) m
-  modular-corollaries n =
-      relied-alike (machine (next m) fits) (mixed never (next m) fits) (freshTable n) (0, freshTable n) (today (next m) fits n) (says-today (next m) fits n) m
-      (mixed-corollaries never n)

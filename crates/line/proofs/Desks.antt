@@ -11,7 +11,15 @@ use Rattle.stage.specs.Calls.{Call, setUp, beginAcquisition, beginRelease, step
 use Rattle.stage.specs.Table.{Table}
 use Rattle.stage.specs.declared.Reply.{Reply}
 use Rattle.stage.specs.declared.Reply.the-variants.{Refused, Answered}
-use Rattle.line.specs.LetIn.{unraised, leftBefore, soundBefore, calledBy}
+use Rattle.line.specs.History.{Desk, machine}
+use Rattle.line.specs.LetIn.{unraised, leftBefore, soundBefore, calledBy, mixed}
+
+-- desks of both kinds on one table
+abbrev pub calledTable : Bool → (ℕ → ℕ) → (ℕ → Bool) → Call → Table → Reply × Table
+calledTable before bump fits = calledBy before (machine bump fits) (λ t s. t)
+
+abbrev pub mixedTables : (ℕ → Bool) → (ℕ → ℕ) → (ℕ → Bool) → Desk
+mixedTables before bump fits = mixed before (machine bump fits) (λ t s. t)
 
 module _ (bump : ℕ → ℕ) (fits : ℕ → Bool) (c : Call) (t : Table) (P : Reply × Table → Type 0)
     (refused : (k : ℕ) → P (Refused k, t))
@@ -21,7 +29,7 @@ module _ (bump : ℕ → ℕ) (fits : ℕ → Bool) (c : Call) (t : Table) (P : 
   today = refused-or P (refusals bump fits c t) _ _ refused accepted
 
   -- what is so where p is at 19 is so where it is at 3
-  pub by-desk : ((p : ℕ) (r : Reply) (t′ : Table) → t′ .private p .stage ≡ 19 → P (r, t′) → P (r, unraised p t′)) → (before : Bool) → P (calledBy before bump fits c t)
+  pub by-desk : ((p : ℕ) (r : Reply) (t′ : Table) → t′ .private p .stage ≡ 19 → P (r, t′) → P (r, unraised p t′)) → (before : Bool) → P (calledTable before bump fits c t)
   unfolding calledBy leftBefore
   by-desk on before = choose P before (λ _. choose P (soundBefore c t) (λ _. left c) (λ _. refused 1)) (λ _. today)
     where

@@ -18,10 +18,10 @@ use Rattle.stage.specs.declared.Reply.{Reply}
 use Rattle.stage.specs.declared.Reply.the-variants.{Answered}
 use Rattle.stage.specs.declared.Shared.{Shared}
 use Rattle.line.specs.History.{Course, start, stepping, accepted, heard, course, takes, state, table, transcript, taken}
-use Rattle.line.specs.LetIn.{unraised, calledBy, mixed}
+use Rattle.line.specs.LetIn.{unraised}
 use Rattle.line.specs.PlainLine.{Place}
 use Rattle.line.proofs.Beginning.{fresh-good, begin-keeps}
-use Rattle.line.proofs.Desks.{by-desk}
+use Rattle.line.proofs.Desks.{calledTable, mixedTables, by-desk}
 use Rattle.line.proofs.HoldingRows.{release-keeps, unraised-keeps}
 use Rattle.line.proofs.Invariant.{Inv}
 use Rattle.line.proofs.Logs.{Logs, pending, insides, quiet, step-logs}
@@ -94,7 +94,7 @@ module _ (fits : ℕ → Bool) where
       record { h = z .0; inv = z .1; logs = relog o l t p 19 (goes 3 (t .private p)) e refl (kept .logs) }
 
   call-keeps : (before : Bool) (c : Call) (o : Course) (l : List ℕ) (t : Table) → Kept o l t
-      → let r = calledBy before suc fits c t in Kept (heard c (r .0) o) (takes c (r .0) (t .log) l) (r .1)
+      → let r = calledTable before suc fits c t in Kept (heard c (r .0) o) (takes c (r .0) (t .log) l) (r .1)
   unfolding heard takes
   call-keeps before c o l t kept =
       by-desk suc fits c t (λ (r : Reply × Table). Kept (heard c (r .0) o) (takes c (r .0) (t .log) l) (r .1))
@@ -103,7 +103,7 @@ module _ (fits : ℕ → Bool) where
   -- the ideal machine, from a fresh table of n modules
   module _ (before : ℕ → Bool) (n : ℕ) where
     pub ideal-kept : (cs : List Call)
-        → Kept (course (transcript (mixed before suc fits) (0, freshTable n) cs)) (taken (mixed before suc fits) (0, freshTable n) cs) (table (mixed before suc fits) (0, freshTable n) cs)
+        → Kept (course (transcript (mixedTables before suc fits) (0, freshTable n) cs)) (taken (mixedTables before suc fits) (0, freshTable n) cs) (table (mixedTables before suc fits) (0, freshTable n) cs)
     unfolding course transcript taken state
     ideal-kept [] = fresh-kept n
     ideal-kept (c ∷ cs) = call-keeps _ c _ _ _ (ideal-kept cs)

@@ -17,9 +17,10 @@ use Rattle.stage.specs.Table.{Table, upd, idle, freshTable, begunAcquisition, b
 use Rattle.stage.specs.declared.Private.{Private}
 use Rattle.stage.specs.declared.Reply.{Reply}
 use Rattle.line.specs.Demand3.{InTime, Inside, Premise}
-use Rattle.line.specs.History.{Desk, Course, machine, state, table}
-use Rattle.line.specs.LetIn.{LetIn, calledBy, mixed}
-use Rattle.line.proofs.Alike.{never, today, says-today, let-in-alike}
+use Rattle.line.specs.History.{Desk, Course, state, table}
+use Rattle.line.specs.LetIn.{LetIn, calledBy}
+use Rattle.line.proofs.Desks.{mixedTables}
+use Rattle.line.proofs.Alike.{never}
 use Rattle.line.proofs.Facts.{seeks-at}
 use Rattle.line.proofs.Ideal.{Kept, ideal-kept}
 use Rattle.line.proofs.Modular.{follows}
@@ -44,7 +45,7 @@ module _ (fits : ℕ → Bool) where
 
   module _ (n : ℕ) where
     abbrev ideal : List Call → Table
-    ideal = table (mixed never suc fits) (0, freshTable n)
+    ideal = table (mixedTables never suc fits) (0, freshTable n)
 
     raised : (cs : List Call) → Raised (ideal cs .private) (ideal cs .shared)
     unfolding state calledBy called
@@ -85,15 +86,10 @@ module _ (fits : ℕ → Bool) where
 
 module _ (m : ℕ) (two : 1 < m) (fits : ℕ → Bool) (n : ℕ) where
   -- counts do not matter to it
-  mixed-lets-in : LetIn (mixed never (next m) fits) (0, freshTable n) m
+  pub modular-lets-in : LetIn (mixedTables never (next m) fits) (0, freshTable n) m
   unfolding Premise InTime
-  mixed-lets-in cs z p e inside =
+  modular-lets-in cs z p e inside =
       let s = follows m two fits never n cs z .same-state in
       let s′ = follows m two fits never n (step p ∷ cs) ((λ nine. absurd (omega (arith, e, nine))), z) .same-state in
       subst₂ (λ (t t′ : Table). t .private p .stage ≡ 6 → Inside t (t .private p .prev) → t′ .private p .stage ≢ 1)
       (sym (ap (λ (k : ℕ × Table). k .1) s)) (sym (ap (λ (k : ℕ × Table). k .1) s′)) (ideal-lets-in fits n cs p) e inside
-
-  pub modular-lets-in : LetIn (machine (next m) fits) (freshTable n) m
-  modular-lets-in =
-      let-in-alike (machine (next m) fits) (mixed never (next m) fits) (freshTable n) (0, freshTable n) (today (next m) fits n) (says-today (next m) fits n) m
-      mixed-lets-in

@@ -21,11 +21,10 @@ use Rattle.stage.specs.Rows.{last}
 use Rattle.stage.specs.Table.{Table, idle, freshTable}
 use Rattle.stage.specs.declared.Reply.{Reply}
 use Rattle.line.specs.Demand3.{changed, reads, changesSince, InTime, Premise, Holds, Demand3}
-use Rattle.line.specs.History.{Desk, Course, course, takes, machine, state, table, transcript, taken}
-use Rattle.line.specs.LetIn.{unraised, calledBy, mixed}
-use Rattle.line.proofs.Alike.{never, today, says-today, demand3-alike}
+use Rattle.line.specs.History.{Desk, Course, course, takes, state, table, transcript, taken}
+use Rattle.line.specs.LetIn.{unraised}
 use Rattle.line.proofs.Counted.{OneOn, readers, Ongoing, links-on, still, Counts, counts-on}
-use Rattle.line.proofs.Desks.{by-desk}
+use Rattle.line.proofs.Desks.{calledTable, mixedTables, by-desk}
 use Rattle.line.proofs.Facts.{seeks-at}
 use Rattle.line.proofs.Holding.{kept-holds}
 use Rattle.line.proofs.Ideal.{ideal-kept}
@@ -101,7 +100,7 @@ module _ (m : ℕ) (two : 1 < m) where
     accepted (step p) = ongoing (step p) tt
     accepted (takeLog room) = ongoing (takeLog room) tt
 
-    counting : (fits : ℕ → Bool) (before : Bool) (c : Call) → let t′ = calledBy before suc fits c t .1 in Counts t′ (told c t since t′)
+    counting : (fits : ℕ → Bool) (before : Bool) (c : Call) → let t′ = calledTable before suc fits c t .1 in Counts t′ (told c t since t′)
     unfolding unraised
     counting fits before c =
         by-desk suc fits c t (λ (r : Reply × Table). Counts (r .1) (told c t since (r .1)))
@@ -113,10 +112,10 @@ module _ (m : ℕ) (two : 1 < m) where
 
   module _ (fits : ℕ → Bool) (before : ℕ → Bool) (n : ℕ) where
     abbrev Real : Desk
-    Real = mixed before (next m) fits
+    Real = mixedTables before (next m) fits
 
     abbrev Ideal : Desk
-    Ideal = mixed before suc fits
+    Ideal = mixedTables before suc fits
 
     abbrev fresh : ℕ × Table
     fresh = (0, freshTable n)
@@ -156,9 +155,9 @@ module _ (m : ℕ) (two : 1 < m) where
         let f = follows cs (z .1) in
         let t = ideal cs in
         let s = f .same-state in
-        let r = calledBy (before (state Ideal fresh cs .0)) suc fits c t in
-        let e : calledBy (before (state Real fresh cs .0)) (next m) fits c (table Real fresh cs) ≡ (r .0, wrap m (r .1)) =
-        ap (λ (k : ℕ × Table). calledBy (before (k .0)) (next m) fits c (k .1)) s
+        let r = calledTable (before (state Ideal fresh cs .0)) suc fits c t in
+        let e : calledTable (before (state Real fresh cs .0)) (next m) fits c (table Real fresh cs) ≡ (r .0, wrap m (r .1)) =
+        ap (λ (k : ℕ × Table). calledTable (before (k .0)) (next m) fits c (k .1)) s
         ∙ desk-wraps m fits t (known cs) (before (state Ideal fresh cs .0)) c (fair c cs f (z .0)) in
         record {
           same-state = λ i. (suc (s i .0), e i .1);
@@ -173,13 +172,8 @@ module _ (m : ℕ) (two : 1 < m) where
               (counting t (since cs) (known cs) (f .counts) fits (before (state Ideal fresh cs .0)) c);
         }
 
-    pub mixed-holds : Demand3 Real fresh m
-    mixed-holds cs z =
+    pub modular : Demand3 Real fresh m
+    modular cs z =
         let f = follows cs z in
         subst₃ Holds (sym (ap (λ (s : ℕ × Table). s .1) (f .same-state))) (sym (ap course (f .heard))) (sym (f .same-taken))
         (holds-wraps (kept-holds (ideal-kept fits before n cs)))
-
-  -- desks of today alone
-  module _ (fits : ℕ → Bool) (n : ℕ) where
-    pub modular : Demand3 (machine (next m) fits) (freshTable n) m
-    modular = demand3-alike (machine (next m) fits) (mixed never (next m) fits) (freshTable n) (0, freshTable n) (today (next m) fits n) (says-today (next m) fits n) m (mixed-holds fits never n)

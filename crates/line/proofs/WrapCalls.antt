@@ -6,7 +6,7 @@ use mathlib.Core.List.{_∷_, []}
 use lib.Dec.{eqb, leb}
 use lib.ListN.{length}
 use native.Mathlib.Nat.{zero-mod}
-use Rattle.laws.proofs.Cases.{cond-map}
+use Rattle.laws.proofs.Cases.{cond-map, cond-map₂}
 use Rattle.link.specs.Count.{next}
 use Rattle.link.specs.Operations.{OPEN, CLOSED, fresh}
 use Rattle.stage.proofs.Refusing.{refusing-map}
@@ -18,6 +18,7 @@ use Rattle.stage.specs.declared.Reply.{Reply}
 use Rattle.stage.specs.declared.Reply.the-variants.{Refused, Answered}
 use Rattle.stage.specs.declared.Stepped.{Stepped}
 use Rattle.line.specs.LetIn.{unraised, leftBefore, soundBefore, calledBy}
+use Rattle.line.proofs.Desks.{calledTable}
 use Rattle.line.proofs.Wrap.{wrapPrivate, wrapShared, wrapStepped, Alike, row-wraps}
 
 module _ (m : ℕ) where
@@ -144,13 +145,11 @@ module _ (m : ℕ) where
     abbrev wrapped : Reply × Table → Reply × Table
     wrapped r = (r .0, wrap (r .1))
 
-    pub desk-wraps : (before : Bool) (c : Call) → Fair c t → calledBy before (next m) fits c (wrap t) ≡ wrapped (calledBy before suc fits c t)
+    pub desk-wraps : (before : Bool) (c : Call) → Fair c t → calledTable before (next m) fits c (wrap t) ≡ wrapped (calledTable before suc fits c t)
     unfolding calledBy soundBefore
     desk-wraps before c fair =
         let e = call-wraps c fair in
         let r = called suc fits c t in
-        let old : Reply × Table = (r .0, leftBefore c t (r .1)) in
         (λ i. cond before (cond (soundBefore c t) (e i .0, leftBefore c (wrap t) (e i .1)) (Refused 1, wrap t)) (e i))
         ∙ (λ i. cond before (cond (soundBefore c t) (r .0, left-wraps c (r .1) i) (Refused 1, wrap t)) (wrapped r))
-        ∙ ap (λ (k : Reply × Table). cond before k (wrapped r)) (sym (cond-map wrapped (soundBefore c t) old (Refused 1, t)))
-        ∙ sym (cond-map wrapped before (cond (soundBefore c t) old (Refused 1, t)) r)
+        ∙ sym (cond-map₂ wrapped before (soundBefore c t) (r .0, leftBefore c t (r .1)) (Refused 1, t) r)

@@ -5,7 +5,7 @@ use mathlib.Core.Bool.{Bool, cond, not, _&&_, _||_}
 use mathlib.Core.List.{List, _∷_}
 use mathlib.Core.Logic.{_≢_}
 use lib.Dec.{eqb, leb}
-use Rattle.stage.specs.Calls.{Call, setUp, beginAcquisition, beginRelease, step, takeLog, asksSound, called}
+use Rattle.stage.specs.Calls.{Call, setUp, beginAcquisition, beginRelease, step, takeLog, asksSound}
 use Rattle.stage.specs.Rows.{goes}
 use Rattle.stage.specs.Sound.{every}
 use Rattle.stage.specs.Table.{Table, upd}
@@ -38,19 +38,21 @@ leftBefore (takeLog room) t t′ = t′
 unfoldable pub soundBefore : Call → Table → Bool
 soundBefore c t = not (asksSound c) || every (t .n) (λ q. leb (t .private q .stage) 18)
 
--- a call by a desk of before R-1, or by one of today
-unfoldable pub calledBy : Bool → (ℕ → ℕ) → (ℕ → Bool) → Call → Table → Reply × Table
-calledBy before bump fits c t =
+-- A call by a desk of before R-1, or by one of today. D says how the desks of today do it; `write` puts a table into a state.
+unfoldable pub calledBy : Bool → (D : Desk) → (Table → D .State → D .State) → Call → D .State → Reply × D .State
+calledBy before D write c s =
     cond before
-    (cond (soundBefore c t) (called bump fits c t .0, leftBefore c t (called bump fits c t .1)) (Refused 1, t))
-    (called bump fits c t)
+    (cond (soundBefore c (D .shows s))
+    (D .says c s, write (leftBefore c (D .shows s) (D .shows (D .leaves c s))) (D .leaves c s))
+    (Refused 1, s))
+    (D .says c s, D .leaves c s)
 
--- Desks of both kinds on one table: `before k` says whether the call after k others is made by one of before R-1.
-abbrev pub mixed : (ℕ → Bool) → (ℕ → ℕ) → (ℕ → Bool) → Desk
-mixed before bump fits =
+-- Desks of both kinds on one state: `before k` says whether the call after k others is made by one of before R-1.
+abbrev pub mixed : (ℕ → Bool) → (D : Desk) → (Table → D .State → D .State) → Desk
+mixed before D write =
     record {
-      State = ℕ × Table;
-      says = λ c s. calledBy (before (s .0)) bump fits c (s .1) .0;
-      leaves = λ c s. (suc (s .0), calledBy (before (s .0)) bump fits c (s .1) .1);
-      shows = λ s. s .1;
+      State = ℕ × D .State;
+      says = λ c s. calledBy (before (s .0)) D write c (s .1) .0;
+      leaves = λ c s. (suc (s .0), calledBy (before (s .0)) D write c (s .1) .1);
+      shows = λ s. D .shows (s .1);
     }
