@@ -11,8 +11,13 @@ use Rattle.stage.specs.Calls.{Call, setUp, beginAcquisition, beginRelease, step
 use Rattle.stage.specs.Table.{Table}
 use Rattle.stage.specs.declared.Reply.{Reply}
 use Rattle.stage.specs.declared.Reply.the-variants.{Refused, Answered}
-use Rattle.line.specs.History.{Desk, machine}
+use Rattle.line.specs.History.{Desk}
 use Rattle.line.specs.LetIn.{unraised, leftBefore, soundBefore, calledBy, mixed}
+
+-- The machine as a desk: `bump` is how a link's count changes, `fits k` whether there is room for k modules.
+abbrev pub machine : (ℕ → ℕ) → (ℕ → Bool) → Desk
+machine bump fits =
+    record { State = Table; says = λ c t. called bump fits c t .0; leaves = λ c t. called bump fits c t .1; shows = λ t. t }
 
 -- desks of both kinds on one table
 abbrev pub calledTable : Bool → (ℕ → ℕ) → (ℕ → Bool) → Call → Table → Reply × Table

@@ -1,8 +1,7 @@
 -- A history of calls on a desk, and what somebody who hears each call and its answer makes of it.
 use Prim.Native.Nat.{ℕ}
-use mathlib.Core.Bool.{Bool}
 use mathlib.Core.List.{List, [], _∷_, _++_}
-use Rattle.stage.specs.Calls.{Call, setUp, beginAcquisition, beginRelease, step, takeLog, called}
+use Rattle.stage.specs.Calls.{Call, setUp, beginAcquisition, beginRelease, step, takeLog}
 use Rattle.stage.specs.Table.{Table, upd}
 use Rattle.stage.specs.declared.Event.{Event}
 use Rattle.stage.specs.declared.Event.the-variants.{Done, Waiting, Admitted, Joined, Left, Finished, Taken}
@@ -16,11 +15,6 @@ pub record Desk : Type 1 where
   pub says : Call → State → Reply
   pub leaves : Call → State → State
   pub shows : State → Table
-
--- The machine as a desk: `bump` is how a link's count changes, `fits k` whether there is room for k modules.
-abbrev pub machine : (ℕ → ℕ) → (ℕ → Bool) → Desk
-machine bump fits =
-    record { State = Table; says = λ c t. called bump fits c t .0; leaves = λ c t. called bump fits c t .1; shows = λ t. t }
 
 -- What is heard of a history: each call and what it said, the latest first.
 abbrev pub Transcript : Type 0
