@@ -9,7 +9,7 @@ use Rattle.stage.specs.Table.{upd, idle, untouched, freshTable, begunAcquisitio
 use Rattle.layout.specs.Layout.{two, four, privateAt, sharedAt, held, read, recordOf, recordsOf, logOf, trailerOf, write, put}
 use Rattle.soundness.specs.SoundImage.{soundTrailer, soundZeros, soundLog, sound}
 use Rattle.image.specs.Call.{refused, reply, image}
-use Rattle.line.specs.LetIn.{unraised}
+use Rattle.line.specs.Mixed.{unraised}
 use Rattle.bench.specs.Table.{insiders, followed, figures, equal, counting, meets, allMeet, steps, goes, throughout, B1, B2, B3, B4, overtaken, B5, B6, B7, B7-before, B8, B9, B10, table, BenchTable}
 
 pub bench-table : BenchTable

@@ -18,7 +18,7 @@ use Rattle.stage.specs.declared.Reply.{Reply}
 use Rattle.stage.specs.declared.Reply.the-variants.{Refused, Answered}
 use Rattle.layout.specs.Layout.{lengthFor, read, put}
 use Rattle.image.specs.Call.{reply, image}
-use Rattle.line.specs.LetIn.{unraised}
+use Rattle.line.specs.Mixed.{unraised}
 
 abbrev pub nil : ℕ
 nil = 0

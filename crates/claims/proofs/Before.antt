@@ -1,30 +1,30 @@
 -- A call on a sound image by a desk of before R-1, or by one of today, is the call on the table that it shows. Assumes nothing.
 use Prim.Native.Nat.{ℕ, _≤_}
-use mathlib.Core.Path.{_≡_, sym, _∙_, ap, subst, subst⁻¹, subst₂}
-use mathlib.Core.Bool.{Bool, true, false, cond, _&&_}
+use mathlib.Core.Path.{_≡_, sym, _∙_, ap, subst, subst₂}
+use mathlib.Core.Bool.{Bool, cond}
 use mathlib.Core.List.{List}
 use mathlib.Core.Logic.{⊎-elim}
-use lib.Dec.{eqb, leb}
+use lib.Dec.{leb}
 use lib.ListN.{length}
 use native.Mathlib.Omega.{arith}
-use borrow.Author.Tests.{eqb-true, leb-true}
+use borrow.Author.Tests.{leb-true}
 use Rattle.laws.proofs.Cases.{choose, test, both-hold, cond-map₂}
 use Rattle.link.specs.Count.{next, size}
 use Rattle.stage.proofs.SoundCalls.{Soundly}
 use Rattle.stage.proofs.Soundly.{SoundMe}
 use Rattle.stage.proofs.Update.{upd-all}
-use Rattle.stage.specs.Calls.{Call, setUp, beginAcquisition, beginRelease, step, takeLog, within, called}
+use Rattle.stage.specs.Calls.{Call, within, called}
 use Rattle.stage.specs.Rows.{goes}
 use Rattle.stage.specs.Table.{Table, idle}
 use Rattle.stage.specs.declared.Private.{Private}
 use Rattle.stage.specs.declared.Reply.{Reply}
 use Rattle.stage.specs.declared.Reply.the-variants.{Refused}
 use Rattle.layout.proofs.ReadBack.{Held}
-use Rattle.layout.specs.Layout.{lengthFor, read, put}
+use Rattle.layout.specs.Layout.{lengthFor, put}
 use Rattle.image.proofs.Sound as Sound
 use Rattle.image.specs.Call.{reply, image}
-use Rattle.line.proofs.Desks.{calledTable}
-use Rattle.line.specs.LetIn.{unraised, leftBefore, soundBefore, calledBy}
+use Rattle.line.proofs.Desks.{calledTable, left-or}
+use Rattle.line.specs.Mixed.{unraised, leftBefore, soundBefore, calledBy}
 use Rattle.claims.proofs.Images.{Shows, outside, fits-read, put-shows, says-is, leaves-is}
 use Rattle.claims.specs.Claims.{images}
 
@@ -71,22 +71,13 @@ module _ (long : ℕ) (s : List ℕ) (t : Table) (shows : Shows long s t) where
 
   -- the image shows t; rewritten, it shows what a desk of before R-1 leaves in place of t
   rewritten : (c : Call) (earlier : Table) → Shows long (put (leftBefore c earlier t) s) (leftBefore c earlier t)
-  unfolding leftBefore unraised
-  rewritten c earlier = subst (λ (k : ℕ). Shows k (put (leftBefore c earlier t) s) (leftBefore c earlier t)) (shows .length-is) (go c)
+  unfolding unraised
+  rewritten c earlier =
+      left-or (λ (t′ : Table). Shows long (put t′ s) t′) c earlier t (as-long t (put-shows t s sound·t (shows .held) room))
+      (λ p e. as-long (unraised p t) (put-shows (unraised p t) s (unraised-sound t sound·t (shows .held) p e) (unraised-held t sound·t (shows .held) p e) room))
     where
-      as·it·is : Shows (length s) (put t s) t
-      as·it·is = put-shows t s sound·t (shows .held) room
-
-      go : (c : Call) → Shows (length s) (put (leftBefore c earlier t) s) (leftBefore c earlier t)
-      go (setUp k) = as·it·is
-      go (beginAcquisition p r) = as·it·is
-      go (beginRelease p) = as·it·is
-      go (step p) =
-          choose (λ (t′ : Table). Shows (length s) (put t′ s) t′) (eqb (earlier .private p .stage) 2 && eqb (t .private p .stage) 19)
-          (λ e. let at·19 = eqb-true (t .private p .stage) 19 (both-hold (eqb (earlier .private p .stage) 2) _ e .1) in
-          put-shows (unraised p t) s (unraised-sound t sound·t (shows .held) p at·19) (unraised-held t sound·t (shows .held) p at·19) room)
-          (λ _. as·it·is)
-      go (takeLog k) = as·it·is
+      as-long : (t′ : Table) → Shows (length s) (put t′ s) t′ → Shows long (put t′ s) t′
+      as-long t′ = subst (λ (k : ℕ). Shows k (put t′ s) t′) (shows .length-is)
 
 module _ (long : ℕ) (s : List ℕ) (t : Table) (shows : Shows long s t) (c : Call) (before : Bool) where
   abbrev fits : ℕ → Bool

@@ -24,7 +24,7 @@ use Rattle.line.specs.Corollaries as Corollaries
 use Rattle.line.specs.Demand3.{Demand3}
 use Rattle.line.specs.History.{Desk, state, table}
 use Rattle.line.specs.LetIn as R1
-use Rattle.line.specs.LetIn.{calledBy, mixed}
+use Rattle.line.specs.Mixed.{calledBy, mixed}
 use Rattle.claims.proofs.Before.{alike}
 use Rattle.claims.proofs.Images.{Shows, fresh-held, put-shows, leaves-is}
 use Rattle.claims.specs.Claims.{images, DeckLock, Relied, LetIn, MixedDesks, StaysSound}

@@ -13,7 +13,7 @@ use Rattle.line.specs.History.{Desk}
 use Rattle.line.specs.Demand3.{Demand3}
 use Rattle.line.specs.Corollaries as Corollaries
 use Rattle.line.specs.LetIn as R1
-use Rattle.line.specs.LetIn.{mixed}
+use Rattle.line.specs.Mixed.{mixed}
 
 -- Images as a desk: a state is a buffer with an image at its end.
 abbrev pub images : Desk

@@ -9,7 +9,8 @@ use Rattle.stage.specs.Table.{Table}
 use Rattle.line.specs.Corollaries.{Corollaries, Relied}
 use Rattle.line.specs.Demand3.{changed, reads, changesSince, InTime, Premise, Inside, Holds, Demand3}
 use Rattle.line.specs.History.{Desk, state, table, transcript, course, taken, takes}
-use Rattle.line.specs.LetIn.{LetIn, calledBy, mixed}
+use Rattle.line.specs.LetIn.{LetIn}
+use Rattle.line.specs.Mixed.{calledBy, mixed}
 
 module _ (D E : Desk) (s : D .State) (e : E .State) (tables : (cs : List Call) → table D s cs ≡ table E e cs)
     (says : (c : Call) (cs : List Call) → D .says c (state D s cs) ≡ E .says c (state E e cs)) where

@@ -14,7 +14,7 @@ use Rattle.stage.specs.declared.Reply.the-variants.{Answered}
 use Rattle.line.specs.Corollaries.{OneOf, stepIn, stands, unlessSetUp, standing, stepsNow, ownSteps, leavesNow, succeeded, Corollaries, Relied}
 use Rattle.line.specs.Demand3.{Found}
 use Rattle.line.specs.History.{Desk, Transcript, start, course, heard, accepted, state, table, transcript}
-use Rattle.line.specs.LetIn.{unraised}
+use Rattle.line.specs.Mixed.{unraised}
 use Rattle.line.specs.PlainLine.{modules}
 use Rattle.line.proofs.Desks.{mixedTables, by-desk}
 use Rattle.line.proofs.Holding.{kept-holds}

@@ -12,7 +12,7 @@ use Rattle.stage.specs.Table.{Table}
 use Rattle.stage.specs.declared.Reply.{Reply}
 use Rattle.stage.specs.declared.Reply.the-variants.{Refused, Answered}
 use Rattle.line.specs.History.{Desk}
-use Rattle.line.specs.LetIn.{unraised, leftBefore, soundBefore, calledBy, mixed}
+use Rattle.line.specs.Mixed.{unraised, leftBefore, soundBefore, calledBy, mixed}
 
 -- The machine as a desk: `bump` is how a link's count changes, `fits k` whether there is room for k modules.
 abbrev pub machine : (ℕ → ℕ) → (ℕ → Bool) → Desk
@@ -26,6 +26,17 @@ calledTable before bump fits = calledBy before (machine bump fits) (λ t s. t)
 abbrev pub mixedTables : (ℕ → Bool) → (ℕ → ℕ) → (ℕ → Bool) → Desk
 mixedTables before bump fits = mixed before (machine bump fits) (λ t s. t)
 
+-- what a desk of before R-1 leaves is what is left today, or that with a module taken from 19 to 3
+pub left-or : (P : Table → Type 0) (c : Call) (t t′ : Table) → P t′ → ((p : ℕ) → t′ .private p .stage ≡ 19 → P (unraised p t′)) → P (leftBefore c t t′)
+unfolding leftBefore
+left-or P (setUp k) t t′ today on = today
+left-or P (beginAcquisition p r) t t′ today on = today
+left-or P (beginRelease p) t t′ today on = today
+left-or P (step p) t t′ today on =
+    choose P (eqb (t .private p .stage) 2 && eqb (t′ .private p .stage) 19)
+    (λ e. on p (eqb-true (t′ .private p .stage) 19 (both-hold (eqb (t .private p .stage) 2) _ e .1))) (λ _. today)
+left-or P (takeLog room) t t′ today on = today
+
 module _ (bump : ℕ → ℕ) (fits : ℕ → Bool) (c : Call) (t : Table) (P : Reply × Table → Type 0)
     (refused : (k : ℕ) → P (Refused k, t))
     (accepted : Unrefused (refusals bump fits c t) → P (Answered (answered bump c t), after bump c t)) where
@@ -35,21 +46,9 @@ module _ (bump : ℕ → ℕ) (fits : ℕ → Bool) (c : Call) (t : Table) (P : 
 
   -- what is so where p is at 19 is so where it is at 3
   pub by-desk : ((p : ℕ) (r : Reply) (t′ : Table) → t′ .private p .stage ≡ 19 → P (r, t′) → P (r, unraised p t′)) → (before : Bool) → P (calledTable before bump fits c t)
-  unfolding calledBy leftBefore
-  by-desk on before = choose P before (λ _. choose P (soundBefore c t) (λ _. left c) (λ _. refused 1)) (λ _. today)
-    where
-      r : Reply
-      r = called bump fits c t .0
-
-      t′ : Table
-      t′ = called bump fits c t .1
-
-      left : (c′ : Call) → P (r, leftBefore c′ t t′)
-      left (setUp k) = today
-      left (beginAcquisition p k) = today
-      left (beginRelease p) = today
-      left (step p) =
-          choose (λ (z : Table). P (r, z)) (eqb (t .private p .stage) 2 && eqb (t′ .private p .stage) 19)
-          (λ e. on p r t′ (eqb-true (t′ .private p .stage) 19 (both-hold (eqb (t .private p .stage) 2) _ e .1)) today)
-          (λ _. today)
-      left (takeLog room) = today
+  unfolding calledBy
+  by-desk on before =
+      let r = called bump fits c t in
+      choose P before
+      (λ _. choose P (soundBefore c t) (λ _. left-or (λ (z : Table). P (r .0, z)) c t (r .1) today (λ p e. on p (r .0) (r .1) e today)) (λ _. refused 1))
+      (λ _. today)

@@ -18,7 +18,7 @@ use Rattle.stage.specs.declared.Reply.{Reply}
 use Rattle.stage.specs.declared.Reply.the-variants.{Answered}
 use Rattle.stage.specs.declared.Shared.{Shared}
 use Rattle.line.specs.History.{Course, start, stepping, accepted, heard, course, takes, state, table, transcript, taken}
-use Rattle.line.specs.LetIn.{unraised}
+use Rattle.line.specs.Mixed.{unraised}
 use Rattle.line.specs.PlainLine.{Place}
 use Rattle.line.proofs.Beginning.{fresh-good, begin-keeps}
 use Rattle.line.proofs.Desks.{calledTable, mixedTables, by-desk}

@@ -1,5 +1,5 @@
 -- R-1's addition: in a history wholly under R-1 a step at stage 6 that looks at a module inside does not return to stage 1. Assumes nothing.
-use Prim.Native.Nat.{ℕ, suc, _≤_, _<_}
+use Prim.Native.Nat.{ℕ, suc, _<_}
 use mathlib.Core.Path.{_≡_, sym, _∙_, ap, subst, subst⁻¹, subst₂}
 use mathlib.Core.Bool.{Bool, false, cond}
 use mathlib.Core.List.{List, [], _∷_}
@@ -13,19 +13,19 @@ use Rattle.stage.proofs.Refusing.{Unrefused, refused-or}
 use Rattle.stage.proofs.Update.{upd-same}
 use Rattle.stage.specs.Calls.{Call, setUp, beginAcquisition, beginRelease, step, takeLog, refusals, after, called}
 use Rattle.stage.specs.Rows.{find, rows, looked, looksAt, stepped}
-use Rattle.stage.specs.Table.{Table, upd, idle, freshTable, begunAcquisition, begunRelease, stepOf, afterStep, logTaken}
+use Rattle.stage.specs.Table.{Table, idle, freshTable, begunAcquisition, begunRelease, stepOf, afterStep, logTaken}
 use Rattle.stage.specs.declared.Private.{Private}
 use Rattle.stage.specs.declared.Reply.{Reply}
 use Rattle.line.specs.Demand3.{InTime, Inside, Premise}
-use Rattle.line.specs.History.{Desk, Course, state, table}
-use Rattle.line.specs.LetIn.{LetIn, calledBy}
+use Rattle.line.specs.History.{Course, state, table}
+use Rattle.line.specs.LetIn.{LetIn}
+use Rattle.line.specs.Mixed.{calledBy}
 use Rattle.line.proofs.Desks.{mixedTables}
 use Rattle.line.proofs.Alike.{never}
 use Rattle.line.proofs.Facts.{seeks-at}
 use Rattle.line.proofs.Ideal.{Kept, ideal-kept}
 use Rattle.line.proofs.Modular.{follows}
 use Rattle.line.proofs.Raised.{Raised, low, raised-at, step-raises, begin-raises, release-raises}
-use Rattle.line.proofs.WrapCalls.{wrap}
 
 fresh-raised : (n : ℕ) → Raised (freshTable n .private) (freshTable n .shared)
 unfolding freshTable idle

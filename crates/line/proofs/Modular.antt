@@ -4,7 +4,7 @@ use Prim.Native.Nat.{ℕ, suc, _+_, _%_, _≤_, _<_}
 use mathlib.Core.Path.{_≡_, refl, sym, _∙_, ap, subst, subst⁻¹, subst₃, fun-ext, transport⁻¹}
 use mathlib.Core.Bool.{Bool, cond}
 use mathlib.Core.List.{List, [], _∷_}
-use mathlib.Core.Logic.{_⊎_, inl, inr, ⊎-elim}
+use mathlib.Core.Logic.{inl, inr, ⊎-elim}
 use lib.Dec.{T}
 use native.Mathlib.Omega.{arith}
 use native.Mathlib.Numerals.{add-one}
@@ -22,7 +22,7 @@ use Rattle.stage.specs.Table.{Table, idle, freshTable}
 use Rattle.stage.specs.declared.Reply.{Reply}
 use Rattle.line.specs.Demand3.{changed, reads, changesSince, InTime, Premise, Holds, Demand3}
 use Rattle.line.specs.History.{Desk, Course, course, takes, state, table, transcript, taken}
-use Rattle.line.specs.LetIn.{unraised}
+use Rattle.line.specs.Mixed.{unraised}
 use Rattle.line.proofs.Counted.{OneOn, readers, Ongoing, links-on, still, Counts, counts-on}
 use Rattle.line.proofs.Desks.{calledTable, mixedTables, by-desk}
 use Rattle.line.proofs.Facts.{seeks-at}

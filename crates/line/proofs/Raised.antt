@@ -1,5 +1,5 @@
 -- R-1: whoever is inside, or about to be, has the highest priority in its record; every row keeps it so. Assumes nothing.
-use Prim.Native.Nat.{ℕ, suc, _≤_}
+use Prim.Native.Nat.{ℕ, suc}
 use mathlib.Core.Path.{_≡_, refl, sym, _∙_, ap, subst, subst₂}
 use mathlib.Core.Bool.{Bool, cond}
 use mathlib.Core.List.{List, [], _∷_}

@@ -17,7 +17,7 @@ use Rattle.stage.specs.Table.{Table, upd, idle, untouched, freshTable, begunAcq
 use Rattle.stage.specs.declared.Reply.{Reply}
 use Rattle.stage.specs.declared.Reply.the-variants.{Refused, Answered}
 use Rattle.stage.specs.declared.Stepped.{Stepped}
-use Rattle.line.specs.LetIn.{unraised, leftBefore, soundBefore, calledBy}
+use Rattle.line.specs.Mixed.{unraised, leftBefore, soundBefore, calledBy}
 use Rattle.line.proofs.Desks.{calledTable}
 use Rattle.line.proofs.Wrap.{wrapPrivate, wrapShared, wrapStepped, Alike, row-wraps}
 

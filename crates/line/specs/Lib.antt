@@ -3,3 +3,4 @@ pub mod History
 pub mod Demand3
 pub mod Corollaries
 pub mod LetIn
+pub mod Mixed

@@ -1,14 +1,12 @@
 -- The answer of a step: its number is that of its event, whoever is admitted is the module that steps, and no log is taken. Assumes nothing.
 use Prim.Native.Nat.{ℕ, _≤_}
 use mathlib.Core.Path.{_≡_, refl}
-use mathlib.Core.Bool.{Bool}
 use lib.Dec.{eqb, ltb}
 use Rattle.laws.proofs.Cases.{choose}
 use Rattle.link.specs.Operations.{same, swapped}
 use Rattle.link.specs.declared.Swapped.{Swapped}
 use Rattle.stage.specs.Answers.{answerOf}
 use Rattle.stage.specs.Rows.{leaves, find, rows, stepped, after9, last}
-use Rattle.stage.specs.declared.Answer.{Answer}
 use Rattle.stage.specs.declared.Event.{Event}
 use Rattle.stage.specs.declared.Event.the-variants.{Done, Waiting, Admitted, Joined, Left, Finished, Taken}
 use Rattle.stage.specs.declared.Private.{Private}

@@ -1,10 +1,9 @@
 -- Every call keeps a sound table sound, whatever its numbers and however counts change. Assumes nothing.
-use Prim.Native.Nat.{ℕ, suc, _+_, _≤_, _<_}
-use mathlib.Core.Path.{_≡_, refl, sym, _∙_, ap, subst, subst⁻¹}
-use mathlib.Core.Bool.{Bool, true, false, not, _&&_}
-use mathlib.Core.List.{List, [], _∷_, _++_}
-use mathlib.Core.Logic.{_⊎_, inl, inr, ⊎-elim}
-use lib.Dec.{T, eqb, leb}
+use Prim.Native.Nat.{ℕ, _≤_}
+use mathlib.Core.Path.{_≡_, refl}
+use mathlib.Core.Bool.{Bool, true, false, _&&_}
+use mathlib.Core.List.{List, [], _∷_}
+use lib.Dec.{eqb, leb}
 use lib.ListN.{length, length-append}
 use borrow.Author.Tests.{eqb-true, leb-true, leb-false, le-leb, not-false}
 use native.Mathlib.Omega.{arith}
@@ -13,17 +12,16 @@ use Rattle.stage.proofs.ByStage.{by-stage}
 use Rattle.stage.proofs.Events.{Of, agrees}
 use Rattle.stage.proofs.Every.{every-gives, every-holds, each-append}
 use Rattle.stage.proofs.Refusing.{Unrefused, refused-or, is-within}
-use Rattle.stage.proofs.Soundly.{SoundMe, SoundIts, SoundStepped, private-facts, private-tests, shared-facts, shared-tests, row-sound}
+use Rattle.stage.proofs.Soundly.{SoundMe, SoundIts, private-facts, private-tests, shared-facts, shared-tests, row-sound}
 use Rattle.stage.proofs.Update.{upd-all}
-use Rattle.stage.specs.Calls.{Call, setUp, beginAcquisition, beginRelease, step, takeLog, within, capacity, admits, refusals, answered, after, called}
-use Rattle.stage.specs.Rows.{goes, withOwn, find, rows, looked, looksAt, stepped}
+use Rattle.stage.specs.Calls.{Call, setUp, beginAcquisition, beginRelease, step, takeLog, within, capacity, admits, refusals, after, called}
+use Rattle.stage.specs.Rows.{find, rows, looked, looksAt, stepped}
 use Rattle.stage.specs.Sound.{soundPrivate, soundShared, each, soundTable, KeepsSound}
-use Rattle.stage.specs.Table.{Table, upd, idle, untouched, freshTable, begunAcquisition, begunRelease, stepOf, logged, afterStep, logTaken}
+use Rattle.stage.specs.Table.{Table, idle, untouched, freshTable, begunAcquisition, begunRelease, stepOf, logged, afterStep, logTaken}
 use Rattle.stage.specs.declared.Event.{Event}
 use Rattle.stage.specs.declared.Event.the-variants.{Done, Waiting, Admitted, Joined, Left, Finished, Taken}
 use Rattle.stage.specs.declared.Private.{Private}
 use Rattle.stage.specs.declared.Reply.{Reply}
-use Rattle.stage.specs.declared.Shared.{Shared}
 use Rattle.link.specs.Operations.{fresh}
 
 -- the rules on a table, as facts

@@ -1,16 +1,15 @@
 -- Every row keeps a sound table sound. Assumes nothing.
-use Prim.Native.Nat.{ℕ, zero, suc, _≤_, _<_}
-use mathlib.Core.Path.{_≡_, refl, sym, _∙_, ap, subst, subst⁻¹}
-use mathlib.Core.Bool.{Bool, true, false, cond, _&&_, _||_, not}
-use mathlib.Core.List.{List, [], _∷_}
-use mathlib.Core.Logic.{_⊎_, inl, inr, ⊎-elim}
-use lib.Dec.{T, eqb, ltb, leb, leb→le}
-use borrow.Author.Tests.{eqb-true, eqb-false, ltb-true, ltb-false, leb-true, leb-false, eq-eqb, ne-eqb, le-leb, lt-leb}
+use Prim.Native.Nat.{ℕ, _≤_}
+use mathlib.Core.Path.{_≡_, refl, sym, _∙_}
+use mathlib.Core.Bool.{Bool, true}
+use mathlib.Core.List.{[], _∷_}
+use lib.Dec.{eqb, ltb, leb}
+use borrow.Author.Tests.{eqb-true, eqb-false, leb-true, eq-eqb, ne-eqb, le-leb}
 use native.Mathlib.Omega.{arith}
-use Rattle.laws.proofs.Cases.{choose, test, both-hold, both-are}
+use Rattle.laws.proofs.Cases.{choose, both-hold, both-are}
 use Rattle.link.specs.Operations.{CLOSED, same, changed, swapped}
 use Rattle.link.specs.declared.Swapped.{Swapped}
-use Rattle.stage.specs.Calls.{within, capacity}
+use Rattle.stage.specs.Calls.{within}
 use Rattle.stage.specs.Rows.{leaves, goes, withW, stepped, find, rows, after9, last}
 use Rattle.stage.specs.Sound.{at, soundLink, soundOwn, soundStage, soundPrivate, soundShared}
 use Rattle.stage.proofs.ByStage.{by-stage}

@@ -3,7 +3,7 @@
 -- A row is given the stepping module's number p and private part `me`, the shared part `its` of the one module that it looks at, and the
 -- lock word. It leaves all three, and answers what happened. "What a row doesn't name keeps its value." `bump` is how a count changes.
 use Prim.Native.Nat.{ℕ}
-use mathlib.Core.Bool.{Bool, cond}
+use mathlib.Core.Bool.{cond}
 use mathlib.Core.List.{List, [], _∷_}
 use lib.Dec.{eqb, ltb}
 use Rattle.link.specs.Operations.{CLOSED, pointed, opened, closed, swapped}
