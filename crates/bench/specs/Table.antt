@@ -13,7 +13,7 @@ use Rattle.stage.specs.Calls.{Call, setUp, beginAcquisition, beginRelease, step
 use Rattle.stage.specs.Rows.{withLink}
 use Rattle.stage.specs.Table.{Table, upd}
 use Rattle.stage.specs.declared.Event.{Event}
-use Rattle.stage.specs.declared.Event.the-variants.{Done, Waiting, Admitted, Joined, Left, Finished, Taken}
+use Rattle.stage.specs.declared.Event.the-variants.{Done, Waiting, Admitted, Joined, Left, Finished, Taken, Nobody}
 use Rattle.stage.specs.declared.Reply.{Reply}
 use Rattle.stage.specs.declared.Reply.the-variants.{Refused, Answered}
 use Rattle.layout.specs.Layout.{lengthFor, read, put}
@@ -68,6 +68,7 @@ admitted Joined = []
 admitted Left = []
 admitted Finished = []
 admitted (Taken k) = []
+admitted Nobody = []
 
 abbrev pub answerIn : Reply → List ℕ
 answerIn (Refused k) = []

@@ -44,7 +44,7 @@ stays-sound c b is =
     let left = leaves-is (length b) b (read b) (record { is = is; length-is = refl; table = refl; held = reading b is }) c in
     (left .is, left .length-is)
 
-two : 1 < size
+pub two : 1 < size
 two = lit< tt
 
 -- Every history on a fresh image, whichever calls are made by desks of before R-1, is one on a fresh table.
@@ -62,10 +62,10 @@ module _ (n : ℕ) (b : List ℕ) (some : 1 ≤ n) (few : n ≤ 64) (room : leng
       (put-shows (freshTable n) b (fresh-sound n some few) (fresh-held n) room)
 
   module _ (before : ℕ → Bool) where
-    abbrev bytes : Desk
+    abbrev pub bytes : Desk
     bytes = mixed before images put
 
-    abbrev tables : Desk
+    abbrev pub tables : Desk
     tables = mixedTables before (next size) fits
 
     abbrev now : List Call → ℕ × List ℕ
@@ -85,13 +85,13 @@ module _ (n : ℕ) (b : List ℕ) (some : 1 ≤ n) (few : n ≤ 64) (room : leng
               (alike (length b) (now cs .1) (then cs .1) (s .1) c (before (then cs .0)) .1),
         )
 
-    says : (c : Call) (cs : List Call) → bytes .says c (now cs) ≡ tables .says c (then cs)
+    pub says : (c : Call) (cs : List Call) → bytes .says c (now cs) ≡ tables .says c (then cs)
     says c cs =
         let s = shows cs in
         ap (λ (k : ℕ). calledBy (before k) images put c (now cs .1) .0) (s .0)
         ∙ alike (length b) (now cs .1) (then cs .1) (s .1) c (before (then cs .0)) .0
 
-    same-table : (cs : List Call) → table bytes (0, start) cs ≡ table tables (0, freshTable n) cs
+    pub same-table : (cs : List Call) → table bytes (0, start) cs ≡ table tables (0, freshTable n) cs
     same-table cs = shows cs .1 .table
 
     mixed-demand3 : Demand3 bytes (0, start) size

@@ -16,7 +16,7 @@ use Rattle.stage.specs.Rows.{looksAt}
 use Rattle.stage.specs.Table.{stepOf}
 use Rattle.stage.specs.declared.Answer.{Answer}
 use Rattle.stage.specs.declared.Event.{Event}
-use Rattle.stage.specs.declared.Event.the-variants.{Done, Waiting, Admitted, Joined, Left, Finished, Taken}
+use Rattle.stage.specs.declared.Event.the-variants.{Done, Waiting, Admitted, Joined, Left, Finished, Taken, Nobody}
 use Rattle.stage.specs.declared.Reply.{Reply}
 use Rattle.stage.specs.declared.Reply.the-variants.{Refused, Answered}
 use Rattle.stage.proofs.Events.{Of, agrees}
@@ -64,6 +64,7 @@ stepped p Joined few o = refl
 stepped p Left few o = refl
 stepped p Finished few o = refl
 stepped p (Taken k) few o = absurd o
+stepped p Nobody few o = absurd o
 
 accepted : (c : Call) (b : List ℕ) → Unrefused (refused c b) → Back (takes c) (Answered (answered (next size) c (read b)))
 unfolding refused refusals answered stepOf

@@ -8,10 +8,11 @@ use lib.Dec.{eqb, leb}
 use Rattle.stage.specs.Answers.{moduleAdmitted, lengthTaken}
 use Rattle.stage.specs.Calls.{Call, setUp, beginAcquisition, beginRelease, step, takeLog}
 use Rattle.stage.specs.declared.Event.{Event}
-use Rattle.stage.specs.declared.Event.the-variants.{Done, Waiting, Admitted, Joined, Left, Finished, Taken}
+use Rattle.stage.specs.declared.Event.the-variants.{Done, Waiting, Admitted, Joined, Left, Finished, Taken, Nobody}
 use Rattle.stage.specs.declared.Reply.{Reply}
 use Rattle.stage.specs.declared.Reply.the-variants.{Refused, Answered}
 use Rattle.image.specs.Call.{reply, image}
+use Rattle.image.specs.Turn.{GivesTurn}
 
 -- the top bit of 32
 abbrev pub top : ℕ
@@ -27,6 +28,12 @@ packed (Answered a) = a .number + 256 * moduleAdmitted (a .event) + 65536 * leng
 pub record Exports (c : Call) (b : List ℕ) (r : ℕ) (b′ : List ℕ) : Type 0 where
   pub says : r ≡ packed (reply c b)
   pub leaves : b′ ≡ image c b
+
+-- the same of a turn, with the marker m before it and m′ after it
+pub record ExportsTurn (b : List ℕ) (m r : ℕ) (b′ : List ℕ) (m′ : ℕ) : Type 0 where
+  pub said : Reply
+  pub says : r ≡ packed said
+  pub gives : GivesTurn b m said b′ m′
 
 -- The call takes the log. A caller knows that, since it made the call: a log of no entry and a call that is done are both packed to 0.
 abbrev pub takes : Call → Bool
@@ -45,7 +52,8 @@ eventOf false number p k =
     (cond (eqb number 2) (Admitted p)
     (cond (eqb number 3) Joined
     (cond (eqb number 4) Left
-    Finished))))
+    (cond (eqb number 5) Finished
+    Nobody)))))
 
 -- what a caller reads out of the number
 unfoldable pub unpacked : Bool → ℕ → Reply
@@ -57,3 +65,7 @@ unpacked log x =
 -- What is proved of it: the packing loses nothing of what a call says on any image.
 abbrev pub LosesNothing : Type 0
 LosesNothing = (c : Call) (b : List ℕ) → unpacked (takes c) (packed (reply c b)) ≡ reply c b
+
+abbrev pub TurnsToo : Type 0
+TurnsToo =
+    (b : List ℕ) (m : ℕ) (r : Reply) (b′ : List ℕ) (m′ : ℕ) → GivesTurn b m r b′ m′ → unpacked false (packed r) ≡ r

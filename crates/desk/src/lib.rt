@@ -1,13 +1,25 @@
-// The five calls, for programs in other languages: `c/mokroshel.h` declares them.
+// The five calls and the turn, for programs in other languages: `c/mokroshel.h` declares them.
 //
-// 01, "What a call says". An exported function returns a number, so each packs what its call says into one of 32 bits.
+// 01, "What a call says", and 02, R-2. An exported function returns a number, so each packs what its call says into one of 32 bits.
 use stage::Reply;
 ghost use mathlib.Core.Path.{_≡_};
 ghost use lib.ListN.{length};
 ghost use Rattle.stage.specs.Calls.{setUp, beginAcquisition, beginRelease, step, takeLog};
 ghost use Rattle.image.specs.Call.{buffer};
 ghost use Rattle.desk.specs.Packed as Packed;
-ghost use Rattle.desk.specs.Packed.{Exports};
+ghost use Rattle.desk.specs.Packed.{Exports, ExportsTurn};
+
+// The turn marker: the number of the module that was served last.
+#[repr(C)]
+pub struct Marker {
+    pub last: u32,
+}
+
+// What a turn says, as one number, and the marker after it.
+struct Told {
+    said: u32,
+    last: u32,
+}
 
 // What a call says, as one number.
 fn packed(reply: Reply) -> u32
@@ -63,4 +75,26 @@ pub extern "C" fn mokroshel_take_log(image: &mut [u8], log: &mut [u8]) -> u32
     ensures { λ r. ⌜ now (log .exit) ≡ buffer (now (image .entry)) (now (log .entry)) ⌝ }
 {
     packed(image::take_log(image, log))
+}
+
+// A turn, by value.
+fn turned(image: &mut [u8], last: u32) -> Told
+    ensures { λ r. ⌜ ExportsTurn (now (image .entry)) last (r .said) (now (image .exit)) (r .last) ⌝ }
+{
+    let t = image::turn(image, last);
+    let reply = t.reply;
+    Told {
+        said: packed(reply),
+        last: t.last,
+    }
+}
+
+// Hands out a turn, and moves the marker on in place.
+#[no_mangle]
+pub extern "C" fn mokroshel_turn(image: &mut [u8], marker: &mut Marker) -> u32
+    ensures { λ r. ⌜ ExportsTurn (now (image .entry)) (now (marker .entry) .last) r (now (image .exit)) (now (marker .exit) .last) ⌝ }
+{
+    let t = turned(image, marker.last);
+    marker.last = t.last;
+    t.said
 }

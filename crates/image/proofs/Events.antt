@@ -11,11 +11,11 @@ use Rattle.stage.proofs.Event.{the-type}
 use types.Run.{OneOf, miss}
 use Rattle.stage.specs.Calls.{admits, capacity}
 use Rattle.stage.specs.declared.Event.{Event}
-use Rattle.stage.specs.declared.Event.the-variants.{Done, Waiting, Admitted, Joined, Left, Finished, Taken}
+use Rattle.stage.specs.declared.Event.the-variants.{Done, Waiting, Admitted, Joined, Left, Finished, Taken, Nobody}
 
 -- the places of the others among the variants
 abbrev others : List ℕ
-others = 0 ∷ 1 ∷ 3 ∷ 4 ∷ 5 ∷ 6 ∷ []
+others = 0 ∷ 1 ∷ 3 ∷ 4 ∷ 5 ∷ 6 ∷ 7 ∷ []
 
 pub other : (e : Event) → OneOf others (tagOf the-type e) → admits e ≡ false
 other Done o = refl
@@ -25,6 +25,7 @@ other Joined o = refl
 other Left o = refl
 other Finished o = refl
 other (Taken k) o = refl
+other Nobody o = refl
 
 -- a step that admits is let pass where the log has room
 pub room-for : (e : Event) (k held : ℕ) → e ≡ Admitted k → (admits e && leb capacity held) ≡ false → held < capacity

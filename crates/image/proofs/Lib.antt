@@ -8,3 +8,4 @@ pub mod Copies
 pub mod Taken
 pub mod Fresh
 pub mod Outcomes
+pub mod Turns

@@ -41,16 +41,19 @@ is-module b f p at me framed least most place same =
     }
 
 -- the two ways out of the search for a module
-module _ (b : List ℕ) (p : ℕ) (r : Found) (finds : Finds b p r) where
-  pub was-refused : (k : ℕ) → r ≡ found.Refused k → given (unfound b p) ≡ some k
-  was-refused k e = subst (Finds b p) e finds
+module _ (b : List ℕ) (p unknown : ℕ) (r : Found) (finds : Finds b p unknown r) where
+  pub was-refused : (k : ℕ) → r ≡ found.Refused k → given (unfound b p unknown) ≡ some k
+  was-refused k e = subst (Finds b p unknown) e finds
 
   pub was-found : (q : ℕ) → r ≡ found.Number q → IsNumber b q
-  was-found q e = subst (Finds b p) e finds .0
+  was-found q e = subst (Finds b p unknown) e finds .0
+
+  pub is-named : (q : ℕ) → r ≡ found.Number q → q ≡ p
+  is-named q e = subst (Finds b p unknown) e finds .1
 
   -- what a call does for the module found it does for p
   pub by-number : (call : ℕ → Call) (q i : ℕ) {x : Reply} {b′ : List ℕ} → r ≡ found.Number q → i ≡ q → Does (call i) b x b′ → Does (call p) b x b′
-  by-number call q i {x} {b′} e same does = subst (λ (j : ℕ). Does (call j) b x b′) (same ∙ subst (Finds b p) e finds .1) does
+  by-number call q i {x} {b′} e same does = subst (λ (j : ℕ). Does (call j) b x b′) (same ∙ is-named q e) does
 
 module _ (b : List ℕ) (m : Module) (is : IsModule b m) where
   -- the module that its step looks at

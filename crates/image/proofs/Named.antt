@@ -10,7 +10,7 @@ use lib.Dec.{eqb, leb}
 use lib.ListN.{length}
 use Rattle.link.specs.Count.{next, size}
 use Rattle.stage.specs.Answers.{answerOf}
-use Rattle.stage.specs.Calls.{Call, beginAcquisition, beginRelease, step, within, admits, capacity, refusing, refusals, answered, after}
+use Rattle.stage.specs.Calls.{Call, beginAcquisition, beginRelease, step, within, rests, admits, capacity, refusing, refusals, answered, after}
 use Rattle.stage.specs.Table.{begunAcquisition, begunRelease, stepOf, afterStep}
 use Rattle.stage.specs.declared.Event.the-variants.{Done}
 use Rattle.stage.specs.declared.Private.{Private}
@@ -28,24 +28,24 @@ use Rattle.image.proofs.Refusals.{in-range, refuses, accepts, found}
 abbrev acquisition-asks : List ℕ → ℕ → ℕ → List (Bool × ℕ)
 acquisition-asks b p r = (not (within 1 254 r), 3) ∷ (not (eqb (read b .private p .stage) 0), 4) ∷ []
 
-pub acquisition-refused : (b : List ℕ) (p r : ℕ) → refused (beginAcquisition p r) b ≡ unfound b p ++ acquisition-asks b p r
+pub acquisition-refused : (b : List ℕ) (p r : ℕ) → refused (beginAcquisition p r) b ≡ unfound b p 2 ++ acquisition-asks b p r
 unfolding refused refusals unfound read
 acquisition-refused b p r = refl
 
 abbrev release-asks : List ℕ → ℕ → List (Bool × ℕ)
 release-asks b p = (not (eqb (read b .private p .stage) 13), 4) ∷ []
 
-pub release-refused : (b : List ℕ) (p : ℕ) → refused (beginRelease p) b ≡ unfound b p ++ release-asks b p
+pub release-refused : (b : List ℕ) (p : ℕ) → refused (beginRelease p) b ≡ unfound b p 2 ++ release-asks b p
 unfolding refused refusals unfound read
 release-refused b p = refl
 
 abbrev step-asks : List ℕ → ℕ → List (Bool × ℕ)
 step-asks b p =
-    (eqb (read b .private p .stage) 0 || eqb (read b .private p .stage) 13, 4)
+    (rests (read b) p, 4)
     ∷ (admits (stepOf (next size) (read b) p .answer .event) && leb capacity (length (read b .log)), 5)
     ∷ []
 
-pub step-refused : (b : List ℕ) (p : ℕ) → refused (step p) b ≡ unfound b p ++ step-asks b p
+pub step-refused : (b : List ℕ) (p : ℕ) → refused (step p) b ≡ unfound b p 2 ++ step-asks b p
 unfolding refused refusals unfound read
 step-refused b p = refl
 
@@ -57,7 +57,7 @@ module _ (b : List ℕ) (m : Module) (is : IsModule b m) where
   stage-is = ap (λ (x : Private). x .stage) (sym (is .me-is))
 
   -- past the search only what the call asks is left
-  asked : (c : Call) (es : List (Bool × ℕ)) → refused c b ≡ unfound b p ++ es → given (refused c b) ≡ given es
+  asked : (c : Call) (es : List (Bool × ℕ)) → refused c b ≡ unfound b p 2 ++ es → given (refused c b) ≡ given es
   asked c es asks = found c b p es asks (is .framed .is) (is .least) (is .most)
 
   -- begin an acquisition
@@ -95,15 +95,18 @@ module _ (b : List ℕ) (m : Module) (is : IsModule b m) where
   step-given = asked (step p) (step-asks b p) (step-refused b p)
 
   -- at 0 and 13 there is none
-  pub no-step : (k : ℕ) → (eqb k 0 || eqb k 13) ≡ true → m .me .stage ≡ k → Does (step p) b (Refused 4) b
-  unfolding given refusing
-  no-step k none·k e = refuses (step p) b 4 (step-given ∙ simp (stage-is, e, none·k))
+  rests-is : (t : Bool) → (eqb (m .me .stage) 0 || eqb (m .me .stage) 13) ≡ t → rests (read b) p ≡ t
+  rests-is t e = ap (λ (k : ℕ). eqb k 0 || eqb k 13) stage-is ∙ e
 
-  module _ (l : Looked) (looks : Looks b m l) (neither : m .me .stage ≡ 0 → ⊥) (nor : m .me .stage ≡ 13 → ⊥) where
+  pub no-step : (eqb (m .me .stage) 0 || eqb (m .me .stage) 13) ≡ true → Does (step p) b (Refused 4) b
+  unfolding given refusing
+  no-step e = refuses (step p) b 4 (step-given ∙ simp (rests-is true e))
+
+  module _ (l : Looked) (looks : Looks b m l) (moves : (eqb (m .me .stage) 0 || eqb (m .me .stage) 13) ≡ false) where
     past-stage : (t : Bool) → (admits (l .stepped .answer .event) && leb capacity (m .frame .held)) ≡ t → given (refused (step p) b) ≡ given ((t, 5) ∷ [])
     unfolding given refusing
     past-stage t e =
-        step-given ∙ simp (stage-is, ne-eqb _ _ neither, ne-eqb _ _ nor, ← looks .stepped-is, entries b (m .frame) (is .framed), e)
+        step-given ∙ simp (rests-is false moves, ← looks .stepped-is, entries b (m .frame) (is .framed), e)
 
     pub full : (admits (l .stepped .answer .event) && leb capacity (m .frame .held)) ≡ true → Does (step p) b (Refused 5) b
     unfolding given refusing

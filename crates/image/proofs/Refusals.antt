@@ -56,21 +56,21 @@ module _ (a b x : ℕ) where
   pub in-range : a ≤ x → x ≤ b → not (within a b x) ≡ false
   in-range low high = simp (le-leb a x low, le-leb x b high)
 
--- what every call that names a module asks
-module _ (b : List ℕ) (p : ℕ) where
-  pub unsound : sound b ≡ false → given (unfound b p) ≡ some 1
+-- what everything that names a module asks
+module _ (b : List ℕ) (p unknown : ℕ) where
+  pub unsound : sound b ≡ false → given (unfound b p unknown) ≡ some 1
   unfolding refusing given unfound
   unsound no·b = simp no·b
 
-  pub no-module : sound b ≡ true → not (within 1 (modules b) p) ≡ true → given (unfound b p) ≡ some 2
+  pub no-module : sound b ≡ true → not (within 1 (modules b) p) ≡ true → given (unfound b p unknown) ≡ some unknown
   unfolding refusing given unfound
   no-module is outside = simp (is, outside)
 
 -- a call that names module p asks that, and then es
-module _ (c : Call) (b : List ℕ) (p : ℕ) (es : List (Bool × ℕ)) (asks : refused c b ≡ unfound b p ++ es) where
-  pub not-found : (k : ℕ) → given (unfound b p) ≡ some k → Does c b (Refused k) b
+module _ (c : Call) (b : List ℕ) (p : ℕ) (es : List (Bool × ℕ)) (asks : refused c b ≡ unfound b p 2 ++ es) where
+  pub not-found : (k : ℕ) → given (unfound b p 2) ≡ some k → Does c b (Refused k) b
   unfolding refusing given unfound
-  not-found k g = refuses c b k (ap given asks ∙ chosen some (given es) (unfound b p) (some k) g)
+  not-found k g = refuses c b k (ap given asks ∙ chosen some (given es) (unfound b p 2) (some k) g)
 
   pub found : sound b ≡ true → 1 ≤ p → p ≤ modules b → given (refused c b) ≡ given es
   unfolding refusing given unfound

@@ -12,7 +12,7 @@ use Rattle.stage.specs.Calls.{admits, capacity}
 use Rattle.stage.specs.Rows.{goes, withOwn, withPriority, looksAt}
 use Rattle.stage.specs.Table.{Table, logged, begunAcquisition, begunRelease, afterStep, logTaken}
 use Rattle.stage.specs.declared.Event.{Event}
-use Rattle.stage.specs.declared.Event.the-variants.{Done, Waiting, Admitted, Joined, Left, Finished, Taken}
+use Rattle.stage.specs.declared.Event.the-variants.{Done, Waiting, Admitted, Joined, Left, Finished, Taken, Nobody}
 use Rattle.stage.specs.declared.Private.{Private}
 use Rattle.stage.specs.declared.Shared.{Shared}
 use Rattle.stage.specs.declared.Stepped.{Stepped}
@@ -96,6 +96,7 @@ kept log Joined no·e = refl
 kept log Left no·e = refl
 kept log Finished no·e = refl
 kept log (Taken k) no·e = refl
+kept log Nobody no·e = refl
 
 -- the three parts of a step one after the other
 pub three-stored : (b : List ℕ) (m : Module) (l : Looked) {b₁ b₂ : List ℕ} → b₁ ≡ puts b (m .at) (privateBytes (l .stepped .me)) → b₂ ≡ puts b₁ (l .at) (sharedBytes (l .stepped .its)) →

@@ -5,10 +5,12 @@ use mathlib.Core.List.{List, [], _∷_}
 use mathlib.Core.Option.{Option, none, some}
 use Prim.Native.Nat.{ℕ, _≤_}
 use lib.ListN.{length, set}
-use Rattle.link.specs.Count.{next, size}
-use Rattle.stage.specs.Calls.{within, capacity, refusing}
+use Rattle.link.specs.Count as Count
+use Rattle.link.specs.Count.{size}
+use Rattle.stage.specs.Calls.{within, capacity, refusing, rests}
 use Rattle.stage.specs.Rows.{looksAt}
 use Rattle.stage.specs.Table.{stepOf}
+use Rattle.stage.specs.Turns.{from, firstThat}
 use Rattle.layout.specs.Layout.{lengthFor, trailerAt, modules, logAt, firstAt, recordAt, held, read}
 use Rattle.layout.proofs.Stores.{puts}
 use Rattle.layout.proofs.Changes.{privateBytes, sharedBytes}
@@ -17,6 +19,8 @@ use Rattle.image.specs.declared.Frame.{Frame}
 use Rattle.image.specs.declared.Module.{Module}
 use Rattle.image.specs.declared.Found.{Found}
 use Rattle.image.specs.declared.Found.the-variants as found
+use Rattle.image.specs.declared.Next.{Next}
+use Rattle.image.specs.declared.Next.the-variants as next
 use Rattle.image.specs.declared.Looked.{Looked}
 
 -- where the parts of a sound image lie
@@ -47,13 +51,22 @@ pub record IsModule (b : List ℕ) (m : Module) : Type 0 where
 unfoldable pub given : List (Bool × ℕ) → Option ℕ
 given es = refusing es some none
 
--- the refusals of every call that names a module
-unfoldable pub unfound : List ℕ → ℕ → List (Bool × ℕ)
-unfound b p = (not (sound b), 1) ∷ (not (within 1 (modules b) p), 2) ∷ []
+-- the refusals of everything that names a module, `unknown` being the number for one that there is not
+unfoldable pub unfound : List ℕ → ℕ → ℕ → List (Bool × ℕ)
+unfound b p unknown = (not (sound b), 1) ∷ (not (within 1 (modules b) p), unknown) ∷ []
 
-abbrev pub Finds : List ℕ → ℕ → Found → Type 0
-Finds b p (found.Refused k) = given (unfound b p) ≡ some k
-Finds b p (found.Number q) = IsNumber b q × (q ≡ p)
+abbrev pub Finds : List ℕ → ℕ → ℕ → Found → Type 0
+Finds b p unknown (found.Refused k) = given (unfound b p unknown) ≡ some k
+Finds b p unknown (found.Number q) = IsNumber b q × (q ≡ p)
+
+-- the first of k modules from p on that can step
+abbrev pub firstAble : List ℕ → ℕ → ℕ → Option ℕ
+firstAble b p k = firstThat (λ q. not (rests (read b) q)) (from p k)
+
+-- a module or none, as the code has it
+abbrev pub Tells : Option ℕ → Next → Type 0
+Tells o next.Nobody = o ≡ none
+Tells o (next.Module p) = o ≡ some p
 
 -- a module's step, before it is stored
 pub record Looks (b : List ℕ) (m : Module) (l : Looked) : Type 0 where
@@ -61,7 +74,7 @@ pub record Looks (b : List ℕ) (m : Module) (l : Looked) : Type 0 where
   pub least : 1 ≤ looksAt (m .number) (m .me)
   pub most : looksAt (m .number) (m .me) ≤ modules b
   pub at-is : l .at ≡ recordAt b (looksAt (m .number) (m .me))
-  pub stepped-is : l .stepped ≡ stepOf (next size) (read b) (m .number)
+  pub stepped-is : l .stepped ≡ stepOf (Count.next size) (read b) (m .number)
 
 -- the image with the parts that a step leaves stored
 unfoldable pub partsPut : List ℕ → Module → Looked → List ℕ

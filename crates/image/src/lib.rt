@@ -1,6 +1,6 @@
-// The five calls on an image of edition 1, and its lock word.
+// The five calls and the turn on an image of edition 1, and its lock word.
 //
-// 01, "What a call says". A call checks the image, refuses by the lowest number that applies, reads the parts that it needs, and
+// 01, "What a call says", and 02, R-2. A call checks the image, refuses by the lowest number that applies, reads the parts that it needs, and
 // stores the bytes of the parts that it changes.
 use link::Link;
 use stage::Answer;
@@ -10,22 +10,25 @@ use stage::Reply;
 use stage::Shared;
 use stage::Stepped;
 ghost use mathlib.Core.Path.{_≡_};
-ghost use mathlib.Core.Bool.{true, false, _&&_};
+ghost use mathlib.Core.Bool.{true, false, _&&_, _||_};
 ghost use mathlib.Core.List.{[], _++_};
 ghost use Prim.Native.Nat.{_+_, _-_, _*_, _^_, _≤_, _<_};
-ghost use lib.Dec.{leb};
+ghost use lib.Dec.{eqb, leb};
 ghost use lib.ListN.{length, set, take, drop};
 ghost use lib.Seq.{paste};
 ghost use Rattle.link.specs.Count.{next, size};
 ghost use Rattle.stage.specs.Calls as Calls;
 ghost use Rattle.stage.specs.Calls.{setUp, beginAcquisition, beginRelease, takeLog, admits, capacity};
 ghost use Rattle.stage.specs.Table.{idle, untouched, freshTable, afterStep, logTaken};
+ghost use Rattle.stage.specs.Turns.{nextAfter};
 ghost use Rattle.layout.specs.Layout.{lengthFor, two, privateAt, sharedAt, read, recordOf, recordsOf, logOf, trailerOf, put};
 ghost use Rattle.layout.proofs.Stores.{puts};
 ghost use Rattle.layout.proofs.Changes.{privateBytes, sharedBytes, lengthBytes};
 ghost use Rattle.soundness.specs.SoundImage.{sound};
 ghost use Rattle.image.specs.Call.{Does, buffer, lockWord};
-ghost use Rattle.image.specs.Inside.{Framed, IsNumber, IsModule, Finds, Looks, partsPut};
+ghost use Rattle.image.specs.Inside.{Framed, IsNumber, IsModule, Finds, firstAble, Tells, Looks, partsPut};
+ghost use Rattle.image.specs.Turn as Turn;
+ghost use Rattle.image.specs.Turn.{GivesTurn};
 
 // Where the parts of a sound image lie: its n, the places of record 1, of the log and of the trailer, and how many entries are held.
 struct Frame {
@@ -48,6 +51,18 @@ struct Module {
 enum Found {
     Refused(u8),
     Number(u8),
+}
+
+// Whose turn is next.
+enum Next {
+    Nobody,
+    Module(u8),
+}
+
+// A turn: what it says, and the marker after it.
+pub struct Turned {
+    pub reply: Reply,
+    pub last: u32,
 }
 
 // A step, before it is stored: the place of the record that it looks at, and what it leaves.
@@ -166,21 +181,32 @@ fn place(first: usize, p: u8) -> usize
     first + 16 * (p as usize - 1)
 }
 
-// The module that a call names, or the refusal of an unsound image, or of a number that is no module's.
-fn find(image: &[u8], p: u32) -> Found
-    ensures { λ r. ⌜ Finds (now (image .entry)) p r ⌝ }
+// The module that is named, or the refusal of an unsound image, or `unknown` for a number that is no module's.
+fn find(image: &[u8], p: u32, unknown: u8) -> Found
+    ensures { λ r. ⌜ Finds (now (image .entry)) p unknown r ⌝ }
 {
     if !soundness::sound(image) {
         return Found::Refused(1);
     }
     let n = frame_of(image).n;
     if p < 1 {
-        return Found::Refused(2);
+        return Found::Refused(unknown);
     }
     if (n as u32) < p {
-        return Found::Refused(2);
+        return Found::Refused(unknown);
     }
     Found::Number(p as u8)
+}
+
+// Whether a module at a stage has no step to take: it is idle or inside.
+fn rests(stage: u8) -> bool
+    ensures { λ r. ⌜ r ≡ (eqb stage 0 || eqb stage 13) ⌝ }
+{
+    match stage {
+        0 => true,
+        13 => true,
+        _ => false,
+    }
 }
 
 // The module of a number.
@@ -403,11 +429,7 @@ fn step_of(image: &mut [u8], m: Module) -> Reply
     requires { ⌜ IsModule (now image) m ⌝ }
     ensures { λ r. ⌜ Does (Calls.step (m .number)) (now (image .entry)) r (now (image .exit)) ⌝ }
 {
-    let stage = m.me.stage;
-    if stage == 0 {
-        return Reply::Refused(4);
-    }
-    if stage == 13 {
+    if rests(m.me.stage) {
         return Reply::Refused(4);
     }
     let l = look(image, m);
@@ -419,6 +441,67 @@ fn step_of(image: &mut [u8], m: Module) -> Reply
     }
     store(image, m, l);
     Reply::Answered(answer)
+}
+
+// The first of the modules from p to the one before `end` that can step.
+fn first_able(image: &[u8], frame: Frame, p: u8, end: u8) -> Next
+    requires { ⌜ Framed (now image) frame ⌝ }
+    requires { ⌜ (1 ≤ p) × (p ≤ end) × (end ≤ frame .n + 1) ⌝ }
+    ensures { λ r. ⌜ Tells (firstAble (now (image .entry)) p (end - p)) r ⌝ }
+{
+    let mut q = p;
+    while q < end {
+        let at = place(frame.first, q);
+        if !rests(image[at]) {
+            return Next::Module(q);
+        }
+        q += 1;
+    }
+    Next::Nobody
+}
+
+// The module whose turn is next after the last one.
+fn next_after(image: &[u8], last: u8) -> Next
+    requires { ⌜ IsNumber (now image) last ⌝ }
+    ensures { λ r. ⌜ Tells (nextAfter (read (now (image .entry))) last) r ⌝ }
+{
+    let frame = frame_of(image);
+    let after = first_able(image, frame, last + 1, frame.n as u8 + 1);
+    match after {
+        Next::Module(p) => Next::Module(p),
+        Next::Nobody => first_able(image, frame, 1, last + 1),
+    }
+}
+
+// The marker after the step of p, by what the step says.
+fn moved(p: u8, last: u32, reply: Reply) -> Turned
+    ensures { λ r. ⌜ (r .reply ≡ reply) × (r .last ≡ Turn.moved p last reply) ⌝ }
+{
+    match reply {
+        Reply::Refused(_) => Turned { reply, last },
+        Reply::Answered(_) => Turned {
+            reply,
+            last: p as u32,
+        },
+    }
+}
+
+// A turn where the marker names a module.
+fn turn_after(image: &mut [u8], last: u8) -> Turned
+    requires { ⌜ IsNumber (now image) last ⌝ }
+    ensures { λ r. ⌜ GivesTurn (now (image .entry)) last (r .reply) (now (image .exit)) (r .last) ⌝ }
+{
+    let next = next_after(image, last);
+    match next {
+        Next::Nobody => Turned {
+            reply: Reply::Answered(Answer::NOBODY),
+            last: last as u32,
+        },
+        Next::Module(p) => {
+            let m = module_of(image, p);
+            moved(p, last as u32, step_of(image, m))
+        }
+    }
 }
 
 // The lock word of an image, or 0 where it is unsound. It is no call, and changes nothing.
@@ -453,7 +536,7 @@ pub fn set_up(image: &mut [u8], n: u32) -> Reply
 pub fn begin_acquisition(image: &mut [u8], p: u32, priority: u32) -> Reply
     ensures { λ r. ⌜ Does (beginAcquisition p priority) (now (image .entry)) r (now (image .exit)) ⌝ }
 {
-    let found = find(image, p);
+    let found = find(image, p, 2);
     match found {
         Found::Refused(k) => Reply::Refused(k),
         Found::Number(number) => {
@@ -467,7 +550,7 @@ pub fn begin_acquisition(image: &mut [u8], p: u32, priority: u32) -> Reply
 pub fn begin_release(image: &mut [u8], p: u32) -> Reply
     ensures { λ r. ⌜ Does (beginRelease p) (now (image .entry)) r (now (image .exit)) ⌝ }
 {
-    let found = find(image, p);
+    let found = find(image, p, 2);
     match found {
         Found::Refused(k) => Reply::Refused(k),
         Found::Number(number) => {
@@ -481,13 +564,27 @@ pub fn begin_release(image: &mut [u8], p: u32) -> Reply
 pub fn step(image: &mut [u8], p: u32) -> Reply
     ensures { λ r. ⌜ Does (Calls.step p) (now (image .entry)) r (now (image .exit)) ⌝ }
 {
-    let found = find(image, p);
+    let found = find(image, p, 2);
     match found {
         Found::Refused(k) => Reply::Refused(k),
         Found::Number(number) => {
             let m = module_of(image, number);
             step_of(image, m)
         }
+    }
+}
+
+// Hands out a turn: the module after the last one served takes a step. By value: the marker goes in as a number and comes back.
+pub fn turn(image: &mut [u8], last: u32) -> Turned
+    ensures { λ r. ⌜ GivesTurn (now (image .entry)) last (r .reply) (now (image .exit)) (r .last) ⌝ }
+{
+    let found = find(image, last, 10);
+    match found {
+        Found::Refused(k) => Turned {
+            reply: Reply::Refused(k),
+            last,
+        },
+        Found::Number(number) => turn_after(image, number),
     }
 }
 

@@ -28,12 +28,12 @@ module _ (D E : Desk) (s : D .State) (e : E .State) (tables : (cs : List Call) �
       transport (λ i. tables cs i .private p .stage ≡ 9 → since-alike p (tables cs i .private p .prev) cs i < m) z
   in-time m (takeLog room) cs z = tt
 
-  premise : (m : ℕ) (cs : List Call) → Premise D s m cs → Premise E e m cs
+  pub premise : (m : ℕ) (cs : List Call) → Premise D s m cs → Premise E e m cs
   unfolding Premise
   premise m [] z = tt
   premise m (c ∷ cs) z = (in-time m c cs (z .0), premise m cs (z .1))
 
-  heard-alike : (cs : List Call) → transcript D s cs ≡ transcript E e cs
+  pub heard-alike : (cs : List Call) → transcript D s cs ≡ transcript E e cs
   unfolding transcript
   heard-alike [] = refl
   heard-alike (c ∷ cs) = λ i. (c, says c cs i) ∷ heard-alike cs i

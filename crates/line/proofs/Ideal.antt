@@ -12,7 +12,7 @@ use Rattle.stage.specs.Calls.{Call, setUp, beginAcquisition, beginRelease, step
 use Rattle.stage.specs.Rows.{goes, withOwn}
 use Rattle.stage.specs.Table.{Table, upd, freshTable, begunAcquisition, begunRelease, stepOf, afterStep, logTaken}
 use Rattle.stage.specs.declared.Event.{Event}
-use Rattle.stage.specs.declared.Event.the-variants.{Done, Waiting, Admitted, Joined, Left, Finished, Taken}
+use Rattle.stage.specs.declared.Event.the-variants.{Done, Waiting, Admitted, Joined, Left, Finished, Taken, Nobody}
 use Rattle.stage.specs.declared.Private.{Private}
 use Rattle.stage.specs.declared.Reply.{Reply}
 use Rattle.stage.specs.declared.Reply.the-variants.{Answered}
@@ -46,6 +46,7 @@ stepping-given p Joined o = refl
 stepping-given p Left o = refl
 stepping-given p Finished o = refl
 stepping-given p (Taken k) o = refl
+stepping-given p Nobody o = refl
 
 as-given : {g g′ : ℕ → ℕ} {private : ℕ → Private} {sh : ℕ → Shared} {lock : ℕ} {l : List Place} {h : ℕ} → g ≡ g′ → Inv g′ private sh lock l h → Inv g private sh lock l h
 as-given {private = private} {sh = sh} {lock = lock} {l = l} {h = h} e i = subst⁻¹ (λ (k : ℕ → ℕ). Inv k private sh lock l h) e i

@@ -31,3 +31,7 @@ pub mod Remembering
 pub mod Consequences
 pub mod Raised
 pub mod LettingIn
+pub mod Release
+pub mod ReleaseRows
+pub mod Releasing
+pub mod HandingOn

@@ -18,7 +18,7 @@ use Rattle.stage.proofs.Update.{upd-all}
 use Rattle.stage.specs.Calls.{step}
 use Rattle.stage.specs.Rows.{find, rows, looked, looksAt, stepped, after9}
 use Rattle.stage.specs.Table.{upd}
-use Rattle.stage.specs.declared.Event.the-variants.{Done, Waiting, Admitted, Joined, Left, Finished, Taken}
+use Rattle.stage.specs.declared.Event.the-variants.{Done, Waiting, Admitted, Joined, Left, Finished, Taken, Nobody}
 use Rattle.stage.specs.declared.Private.{Private}
 use Rattle.stage.specs.declared.Reply.the-variants.{Answered}
 use Rattle.stage.specs.declared.Shared.{Shared}
@@ -53,6 +53,7 @@ Said (C.stepped p Joined) h earlier = Unit {0}
 Said (C.stepped p Left) h earlier = Sorted (course h .line)
 Said (C.stepped p Finished) h earlier = ownSteps p h ≡ cond (succeeded p earlier) 5 3
 Said (C.stepped p (Taken k)) h earlier = Unit {0}
+Said (C.stepped p Nobody) h earlier = Unit {0}
 
 abbrev pub Latest : Transcript → Type 0
 Latest [] = Unit {0}

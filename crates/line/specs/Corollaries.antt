@@ -9,7 +9,7 @@ use Rattle.stage.specs.Answers.{answerOf}
 use Rattle.stage.specs.Calls.{Call, setUp, beginAcquisition, beginRelease, step, takeLog}
 use Rattle.stage.specs.Table.{Table}
 use Rattle.stage.specs.declared.Event.{Event}
-use Rattle.stage.specs.declared.Event.the-variants.{Done, Waiting, Admitted, Joined, Left, Finished, Taken}
+use Rattle.stage.specs.declared.Event.the-variants.{Done, Waiting, Admitted, Joined, Left, Finished, Taken, Nobody}
 use Rattle.stage.specs.declared.Reply.{Reply}
 use Rattle.stage.specs.declared.Reply.the-variants.{Refused, Answered}
 use Rattle.line.specs.Demand3.{Premise, Found}
@@ -59,6 +59,7 @@ stands (stepped p Joined) l = l ++ p ∷ []
 stands (stepped p Left) l = without p l
 stands (stepped p Finished) l = l
 stands (stepped p (Taken k)) l = l
+stands (stepped p Nobody) l = l
 
 unfoldable pub unlessSetUp : {A : Type 0} → Call → Reply → A → A → A
 unlessSetUp c (Refused k) fresh ongoing = ongoing
@@ -86,6 +87,7 @@ leavesNow p (stepped q Joined) = false
 leavesNow p (stepped q Left) = eqb q p
 leavesNow p (stepped q Finished) = false
 leavesNow p (stepped q (Taken j)) = false
+leavesNow p (stepped q Nobody) = false
 
 -- p's own steps of its latest release: its leave is the first
 unfoldable pub ownSteps : ℕ → Transcript → ℕ

@@ -4,7 +4,7 @@ use mathlib.Core.List.{List, [], _∷_, _++_}
 use Rattle.stage.specs.Calls.{Call, setUp, beginAcquisition, beginRelease, step, takeLog}
 use Rattle.stage.specs.Table.{Table, upd}
 use Rattle.stage.specs.declared.Event.{Event}
-use Rattle.stage.specs.declared.Event.the-variants.{Done, Waiting, Admitted, Joined, Left, Finished, Taken}
+use Rattle.stage.specs.declared.Event.the-variants.{Done, Waiting, Admitted, Joined, Left, Finished, Taken, Nobody}
 use Rattle.stage.specs.declared.Reply.{Reply}
 use Rattle.stage.specs.declared.Reply.the-variants.{Refused, Answered}
 use Rattle.line.specs.PlainLine.{Place, join, leave, firstOf}
@@ -49,6 +49,7 @@ stepping p Left o =
     record { line = leave (o .line); firsts = o .firsts ++ firstOf (leave (o .line)); given = o .given }
 stepping p Finished o = o
 stepping p (Taken k) o = o
+stepping p Nobody o = o
 
 -- an accepted call with its event. "A new set-up starts a new history."
 unfoldable pub accepted : Call → Event → Course → Course

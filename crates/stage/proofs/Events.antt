@@ -8,7 +8,7 @@ use Rattle.link.specs.declared.Swapped.{Swapped}
 use Rattle.stage.specs.Answers.{answerOf}
 use Rattle.stage.specs.Rows.{leaves, find, rows, stepped, after9, last}
 use Rattle.stage.specs.declared.Event.{Event}
-use Rattle.stage.specs.declared.Event.the-variants.{Done, Waiting, Admitted, Joined, Left, Finished, Taken}
+use Rattle.stage.specs.declared.Event.the-variants.{Done, Waiting, Admitted, Joined, Left, Finished, Taken, Nobody}
 use Rattle.stage.specs.declared.Private.{Private}
 use Rattle.stage.specs.declared.Shared.{Shared}
 use Rattle.stage.specs.declared.Stepped.{Stepped}
@@ -23,6 +23,7 @@ Of p Joined = Unit {0}
 Of p Left = Unit {0}
 Of p Finished = Unit {0}
 Of p (Taken k) = ⊥
+Of p Nobody = ⊥
 
 -- number and event agree, and the event is one of a step of p
 pub record Agrees (p : ℕ) (r : Stepped) : Type 0 where

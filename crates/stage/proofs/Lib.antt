@@ -7,3 +7,4 @@ pub mod Refusing
 pub mod SoundCalls
 pub mod Soundly
 pub mod Update
+pub mod Around

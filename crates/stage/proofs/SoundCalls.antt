@@ -19,7 +19,7 @@ use Rattle.stage.specs.Rows.{find, rows, looked, looksAt, stepped}
 use Rattle.stage.specs.Sound.{soundPrivate, soundShared, each, soundTable, KeepsSound}
 use Rattle.stage.specs.Table.{Table, idle, untouched, freshTable, begunAcquisition, begunRelease, stepOf, logged, afterStep, logTaken}
 use Rattle.stage.specs.declared.Event.{Event}
-use Rattle.stage.specs.declared.Event.the-variants.{Done, Waiting, Admitted, Joined, Left, Finished, Taken}
+use Rattle.stage.specs.declared.Event.the-variants.{Done, Waiting, Admitted, Joined, Left, Finished, Taken, Nobody}
 use Rattle.stage.specs.declared.Private.{Private}
 use Rattle.stage.specs.declared.Reply.{Reply}
 use Rattle.link.specs.Operations.{fresh}
@@ -101,6 +101,7 @@ log-sound n p log Joined low high o held entries room = (held, entries)
 log-sound n p log Left low high o held entries room = (held, entries)
 log-sound n p log Finished low high o held entries room = (held, entries)
 log-sound n p log (Taken k) low high o held entries room = (held, entries)
+log-sound n p log Nobody low high o held entries room = (held, entries)
 
 pub fresh-sound : (k : ℕ) → 1 ≤ k → k ≤ 64 → Soundly (freshTable k)
 unfolding freshTable idle untouched fresh each

@@ -10,7 +10,7 @@ use Rattle.stage.specs.declared.Answer.{Answer}
 use Rattle.stage.specs.declared.Reply.{Reply}
 use Rattle.stage.specs.declared.Reply.the-variants.{Refused, Answered}
 use Rattle.stage.specs.declared.Event.{Event}
-use Rattle.stage.specs.declared.Event.the-variants.{Done, Waiting, Admitted, Joined, Left, Finished, Taken}
+use Rattle.stage.specs.declared.Event.the-variants.{Done, Waiting, Admitted, Joined, Left, Finished, Taken, Nobody}
 
 -- A call with its numbers, whatever they are. `takeLog room` is lent a buffer of `room` bytes for the log.
 pub data Call : Type 0 where
@@ -44,6 +44,11 @@ admits Joined = false
 admits Left = false
 admits Finished = false
 admits (Taken k) = false
+admits Nobody = false
+
+-- "0: idle, no step. 13: inside, no step."
+abbrev pub rests : Table → ℕ → Bool
+rests t p = eqb (t .private p .stage) 0 || eqb (t .private p .stage) 13
 
 -- what a call is refused for, in the order of the numbers: a test and the number that is given where it holds. `fits k` says whether the
 -- buffer has room for k modules. (Number 1, an unsound image, is the image's to give, and comes before these.)
@@ -57,7 +62,7 @@ refusals bump fits (beginAcquisition p r) t =
 refusals bump fits (beginRelease p) t = (not (within 1 (t .n) p), 2) ∷ (not (eqb (t .private p .stage) 13), 4) ∷ []
 refusals bump fits (step p) t =
     (not (within 1 (t .n) p), 2)
-    ∷ (eqb (t .private p .stage) 0 || eqb (t .private p .stage) 13, 4)
+    ∷ (rests t p, 4)
     ∷ (admits (stepOf bump t p .answer .event) && leb capacity (length (t .log)), 5)
     ∷ []
 refusals bump fits (takeLog room) t = (ltb room (length (t .log)), 6) ∷ []

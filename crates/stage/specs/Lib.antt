@@ -3,3 +3,4 @@ pub mod Rows
 pub mod Table
 pub mod Calls
 pub mod Sound
+pub mod Turns

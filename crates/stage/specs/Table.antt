@@ -10,7 +10,7 @@ use Rattle.stage.specs.declared.Private.{Private}
 use Rattle.stage.specs.declared.Shared.{Shared}
 use Rattle.stage.specs.declared.Stepped.{Stepped}
 use Rattle.stage.specs.declared.Event.{Event}
-use Rattle.stage.specs.declared.Event.the-variants.{Done, Waiting, Admitted, Joined, Left, Finished, Taken}
+use Rattle.stage.specs.declared.Event.the-variants.{Done, Waiting, Admitted, Joined, Left, Finished, Taken, Nobody}
 
 -- Modules are numbered 1 to n. Of module p, `private p` is what only it writes, `shared p` what others may touch. The log names the admitted
 -- modules, the earliest first.
@@ -63,6 +63,7 @@ logged log Joined = log
 logged log Left = log
 logged log Finished = log
 logged log (Taken k) = log
+logged log Nobody = log
 
 unfoldable pub afterStep : (ℕ → ℕ) → Table → ℕ → Table
 afterStep bump t p =

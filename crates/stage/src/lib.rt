@@ -38,6 +38,7 @@ pub enum Event {
     Left,
     Finished,
     Taken(u16),
+    Nobody,
 }
 
 // An accepted call's answer: 01's number for what happened, and what happened.
@@ -84,6 +85,11 @@ impl Answer {
     pub const FINISHED: Answer = Answer {
         number: 5,
         event: Event::Finished,
+    };
+
+    pub const NOBODY: Answer = Answer {
+        number: 9,
+        event: Event::Nobody,
     };
 
     pub fn admitted(p: u8) -> Answer

@@ -18,7 +18,7 @@ enum-known-found-2 : tie.Need-enum-known-found-2
 enum-known-found-2 c = search needs
 
 module-of-requires : tie.Need-module-of-requires
-module-of-requires c κs = was-found _ _ _ (c .before .before .before .before .find .ensures) _ (c .before .before .found2 .given .1)
+module-of-requires c κs = was-found _ _ _ _ (c .before .before .before .before .find .ensures) _ (c .before .before .found2 .given .1)
 
 begin-acquisition-of-requires : tie.Need-begin-acquisition-of-requires
 begin-acquisition-of-requires c κs = search needs
@@ -27,7 +27,7 @@ same-length : tie.Need-same-length
 same-length c = search needs
 
 returns : tie.Need-returns
-returns c = not-found _ _ _ _ (acquisition-refused _ _ _) _ (was-refused _ _ _ (c .before .before .before .find .ensures) _ (c .before .found .given .1))
+returns c = not-found _ _ _ _ (acquisition-refused _ _ _) _ (was-refused _ _ _ _ (c .before .before .before .find .ensures) _ (c .before .found .given .1))
 
 same-length-2 : tie.Need-same-length-2
 same-length-2 c = search needs
@@ -35,7 +35,7 @@ same-length-2 c = search needs
 returns-2 : tie.Need-returns-2
 returns-2 c =
     let start = c .before .before .before .before .before .before .before .before .before .before .before .before in
-    by-number _ _ _ (c .before .before .before .before .before .before .before .before .before .find .ensures) (λ q. Calls.beginAcquisition q (start .args .priority)) _ _ (c .before .before .before .before .before .before .before .found2 .given .1) (c .before .before .before .before .module-of .ensures .1)
+    by-number _ _ _ _ (c .before .before .before .before .before .before .before .before .before .find .ensures) (λ q. Calls.beginAcquisition q (start .args .priority)) _ _ (c .before .before .before .before .before .before .before .found2 .given .1) (c .before .before .before .before .module-of .ensures .1)
     (c .before .before .begin-acquisition-of .ensures)
 
 pub begin-acquisition-spec : {M : Type 1} → statement M

@@ -18,7 +18,7 @@ enum-known-found-2 : tie.Need-enum-known-found-2
 enum-known-found-2 c = search needs
 
 module-of-requires : tie.Need-module-of-requires
-module-of-requires c κs = was-found _ _ _ (c .before .before .before .before .find .ensures) _ (c .before .before .found2 .given .1)
+module-of-requires c κs = was-found _ _ _ _ (c .before .before .before .before .find .ensures) _ (c .before .before .found2 .given .1)
 
 begin-release-of-requires : tie.Need-begin-release-of-requires
 begin-release-of-requires c κs = search needs
@@ -27,14 +27,14 @@ same-length : tie.Need-same-length
 same-length c = search needs
 
 returns : tie.Need-returns
-returns c = not-found _ _ _ _ (release-refused _ _) _ (was-refused _ _ _ (c .before .before .before .find .ensures) _ (c .before .found .given .1))
+returns c = not-found _ _ _ _ (release-refused _ _) _ (was-refused _ _ _ _ (c .before .before .before .find .ensures) _ (c .before .found .given .1))
 
 same-length-2 : tie.Need-same-length-2
 same-length-2 c = search needs
 
 returns-2 : tie.Need-returns-2
 returns-2 c =
-    by-number _ _ _ (c .before .before .before .before .before .before .before .before .before .find .ensures) Calls.beginRelease _ _ (c .before .before .before .before .before .before .before .found2 .given .1) (c .before .before .before .before .module-of .ensures .1)
+    by-number _ _ _ _ (c .before .before .before .before .before .before .before .before .before .find .ensures) Calls.beginRelease _ _ (c .before .before .before .before .before .before .before .found2 .given .1) (c .before .before .before .before .module-of .ensures .1)
     (c .before .before .begin-release-of .ensures)
 
 pub begin-release-spec : {M : Type 1} → statement M

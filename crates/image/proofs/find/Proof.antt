@@ -13,13 +13,13 @@ sound-requires : tie.Need-sound-requires
 sound-requires c κs = search needs
 
 returns : tie.Need-returns
-returns c = unsound _ _ (search said)
+returns c = unsound _ _ _ (search said)
 
 frame-of-requires : tie.Need-frame-of-requires
 frame-of-requires c κs = search said
 
 returns-2 : tie.Need-returns-2
-returns-2 c = no-module _ _ (search said) (too-low _ _ _ (c .if2 .taken))
+returns-2 c = no-module _ _ _ (search said) (too-low _ _ _ (c .if2 .taken))
 
 cast-if3 : tie.Need-cast-if3
 cast-if3 c = search needs
@@ -27,10 +27,10 @@ cast-if3 c = search needs
 returns-3 : tie.Need-returns-3
 returns-3 c =
     let start = c .before .before .before .before .before .before .args in
-    no-module _ _ (search said) (too-high 1 (modules (now (start .image))) (start .p) (omega arith))
+    no-module _ _ _ (search said) (too-high 1 (modules (now (start .image))) (start .p) (omega arith))
 
-cast-t8 : tie.Need-cast-t8
-cast-t8 c = search needs
+cast-t9 : tie.Need-cast-t9
+cast-t9 c = search needs
 
 returns-4 : tie.Need-returns-4
 returns-4 c = search needs
@@ -45,5 +45,5 @@ find-spec =
     returns-2
     cast-if3
     returns-3
-    cast-t8
+    cast-t9
     returns-4)
