@@ -1,22 +1,19 @@
 -- A call on a sound image by a desk of before R-1, or by one of today, is the call on the table that it shows. Assumes nothing.
 use Prim.Native.Nat.{ℕ, _≤_}
-use mathlib.Core.Path.{_≡_, sym, _∙_, ap, subst, subst₂}
+use mathlib.Core.Path.{_≡_, sym, _∙_, subst, subst₂}
 use mathlib.Core.Bool.{Bool, cond}
 use mathlib.Core.List.{List}
-use mathlib.Core.Logic.{⊎-elim}
 use lib.Dec.{leb}
 use lib.ListN.{length}
 use native.Mathlib.Omega.{arith}
-use borrow.Author.Tests.{leb-true}
-use Rattle.laws.proofs.Cases.{choose, test, both-hold, cond-map₂}
+use Rattle.laws.proofs.Cases.{choose, cond-map₂}
 use Rattle.link.specs.Count.{next, size}
 use Rattle.stage.proofs.SoundCalls.{Soundly}
 use Rattle.stage.proofs.Soundly.{SoundMe}
 use Rattle.stage.proofs.Update.{upd-all}
-use Rattle.stage.specs.Calls.{Call, within, called}
+use Rattle.stage.specs.Calls.{Call, called}
 use Rattle.stage.specs.Rows.{goes}
 use Rattle.stage.specs.Table.{Table, idle}
-use Rattle.stage.specs.declared.Private.{Private}
 use Rattle.stage.specs.declared.Reply.{Reply}
 use Rattle.stage.specs.declared.Reply.the-variants.{Refused}
 use Rattle.layout.proofs.ReadBack.{Held}
@@ -25,20 +22,16 @@ use Rattle.image.proofs.Sound as Sound
 use Rattle.image.specs.Call.{reply, image}
 use Rattle.line.proofs.Desks.{calledTable, left-or}
 use Rattle.line.specs.Mixed.{unraised, leftBefore, soundBefore, calledBy}
-use Rattle.claims.proofs.Images.{Shows, outside, fits-read, put-shows, says-is, leaves-is}
+use Rattle.claims.proofs.Images.{Shows, known, outside, fits-read, put-shows, says-is, leaves-is}
 use Rattle.claims.specs.Claims.{images}
 
 -- a module at stage 19 is one of the table
 module _ (t : Table) (sound·t : Soundly t) (held : Held t) (p : ℕ) (at·19 : t .private p .stage ≡ 19) where
-  known : (1 ≤ p) × (p ≤ t .n)
-  unfolding idle
-  known =
-      ⊎-elim (λ e. let f = both-hold (leb 1 p) (leb p (t .n)) e in (leb-true 1 p (f .0), leb-true p (t .n) (f .1)))
-      (λ e. let z = ap (λ (me : Private). me .stage) (held .private-outside p e) in absurd (omega (arith, at·19, z)))
-      (test (within 1 (t .n) p))
+  is·p : (1 ≤ p) × (p ≤ t .n)
+  is·p = known t (held .private-outside) p (λ z. omega (arith, at·19, z))
 
   at-3 : SoundMe (t .n) (goes 3 (t .private p))
-  at-3 = let m = sound·t .private p (known .0) (known .1) in let o = m .busy (omega arith) in omega arith
+  at-3 = let m = sound·t .private p (is·p .0) (is·p .1) in let o = m .busy (omega arith) in omega arith
 
   unraised-sound : Soundly (unraised p t)
   unfolding unraised
@@ -58,7 +51,7 @@ module _ (t : Table) (sound·t : Soundly t) (held : Held t) (p : ℕ) (at·19 : 
   unraised-held =
       record {
         few = held .few;
-        private-outside = outside (t .private) (t .n) p _ idle (known .0) (known .1) (held .private-outside);
+        private-outside = outside (t .private) (t .n) p _ idle (is·p .0) (is·p .1) (held .private-outside);
         shared-outside = held .shared-outside;
       }
 

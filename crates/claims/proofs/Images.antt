@@ -3,11 +3,12 @@ use Prim.Native.Nat.{ℕ, _≤_}
 use mathlib.Core.Path.{_≡_, refl, sym, _∙_, ap, subst, subst₂}
 use mathlib.Core.Bool.{Bool, true, false, cond, not}
 use mathlib.Core.List.{List, _∷_}
+use mathlib.Core.Logic.{⊎-elim}
 use lib.Dec.{leb}
 use lib.ListN.{length}
 use native.Mathlib.Omega.{arith}
 use borrow.Author.Tests.{leb-true, le-leb, not-false}
-use Rattle.laws.proofs.Cases.{both-are}
+use Rattle.laws.proofs.Cases.{test, both-are, both-hold}
 use Rattle.laws.proofs.Said.{no-right}
 use Rattle.link.specs.Count.{next, size}
 use Rattle.stage.proofs.Refusing.{Unrefused, refused-or, refusing-map, is-within}
@@ -16,10 +17,11 @@ use Rattle.stage.proofs.Update.{upd-all}
 use Rattle.stage.specs.Calls.{Call, setUp, beginAcquisition, beginRelease, step, takeLog, asksSound, within, refusals, refusing, answered, after, called}
 use Rattle.stage.specs.Rows.{looksAt}
 use Rattle.stage.specs.Table.{Table, upd, idle, untouched, freshTable, begunAcquisition, begunRelease, afterStep, logTaken}
+use Rattle.stage.specs.declared.Private.{Private}
 use Rattle.stage.specs.declared.Reply.{Reply}
 use Rattle.stage.specs.declared.Reply.the-variants.{Refused, Answered}
 use Rattle.layout.proofs.ReadBack.{Held, length-put, read-put}
-use Rattle.layout.specs.Layout.{lengthFor, read, put}
+use Rattle.layout.specs.Layout.{lengthFor, recordAt, privateAt, sharedAt, read, put}
 use Rattle.soundness.specs.SoundImage.{sound}
 use Rattle.image.proofs.Sound as Sound
 use Rattle.image.proofs.Sound.{put-sound}
@@ -95,6 +97,35 @@ put-shows t s sound·t held room =
       table = read-put t s held room;
       held = held;
     }
+
+-- a sound image shows the table that is read from it, idle outside 1 to n
+pub read-idle : (b : List ℕ) (p : ℕ) → within 1 (read b .n) p ≡ false → read b .private p ≡ idle
+unfolding read
+read-idle b p e = ap (λ x. cond x (privateAt b (recordAt b p)) idle) e
+
+pub shown : (b : List ℕ) → sound b ≡ true → Shows (length b) b (read b)
+unfolding read
+shown b is =
+    record {
+      is = is;
+      length-is = refl;
+      table = refl;
+      held =
+          record {
+            few = Sound.table b is .held;
+            private-outside = read-idle b;
+            shared-outside = λ p e. ap (λ x. cond x (sharedAt b (recordAt b p)) untouched) e;
+          };
+    }
+
+-- so whoever is not idle is a module of the table
+pub known : (t : Table) → ((p : ℕ) → within 1 (t .n) p ≡ false → t .private p ≡ idle)
+    → (a : ℕ) → (t .private a .stage ≡ 0 → ⊥) → (1 ≤ a) × (a ≤ t .n)
+unfolding idle
+known t outside·n a busy·a =
+    ⊎-elim (λ e. let f = both-hold (leb 1 a) (leb a (t .n)) e in (leb-true 1 a (f .0), leb-true a (t .n) (f .1)))
+    (λ e. absurd (busy·a (ap (λ (me : Private). me .stage) (outside·n a e))))
+    (test (within 1 (t .n) a))
 
 module _ (long : ℕ) (s : List ℕ) (t : Table) (shows : Shows long s t) (c : Call) where
   abbrev room : ℕ → Bool

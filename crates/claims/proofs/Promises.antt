@@ -1,7 +1,7 @@
 -- The promises of specs/Claims.antt. Assumes nothing.
 use Prim.Native.Nat.{ℕ, suc, _≤_, _<_}
 use mathlib.Core.Path.{_≡_, refl, _∙_, ap, subst⁻¹}
-use mathlib.Core.Bool.{Bool, true, cond}
+use mathlib.Core.Bool.{Bool}
 use mathlib.Core.List.{List, [], _∷_}
 use borrow.Author.Tests.{le-leb}
 use lib.Dec.{leb, lit<}
@@ -9,11 +9,8 @@ use lib.ListN.{length}
 use Rattle.link.specs.Count.{next, size}
 use Rattle.stage.proofs.SoundCalls.{fresh-sound}
 use Rattle.stage.specs.Calls.{Call, setUp, refusals, refusing, after}
-use Rattle.stage.specs.Table.{Table, idle, untouched, freshTable}
-use Rattle.layout.proofs.ReadBack.{Held}
-use Rattle.layout.specs.Layout.{lengthFor, recordAt, privateAt, sharedAt, read, put}
-use Rattle.soundness.specs.SoundImage.{sound}
-use Rattle.image.proofs.Sound as Sound
+use Rattle.stage.specs.Table.{Table, freshTable}
+use Rattle.layout.specs.Layout.{lengthFor, read, put}
 use Rattle.image.specs.Call.{refused, image}
 use Rattle.line.proofs.Alike.{demand3-alike, relied-alike, let-in-alike, never, today, says-today}
 use Rattle.line.proofs.Consequences.{modular-corollaries}
@@ -26,22 +23,12 @@ use Rattle.line.specs.History.{Desk, state, table}
 use Rattle.line.specs.LetIn as R1
 use Rattle.line.specs.Mixed.{calledBy, mixed}
 use Rattle.claims.proofs.Before.{alike}
-use Rattle.claims.proofs.Images.{Shows, fresh-held, put-shows, leaves-is}
+use Rattle.claims.proofs.Images.{Shows, fresh-held, put-shows, leaves-is, shown}
 use Rattle.claims.specs.Claims.{images, DeckLock, Relied, LetIn, MixedDesks, StaysSound}
-
--- what is read is what an image can hold
-reading : (b : List ℕ) → sound b ≡ true → Held (read b)
-unfolding read
-reading b is =
-    record {
-      few = Sound.table b is .held;
-      private-outside = λ p e. ap (λ x. cond x (privateAt b (recordAt b p)) idle) e;
-      shared-outside = λ p e. ap (λ x. cond x (sharedAt b (recordAt b p)) untouched) e;
-    }
 
 pub stays-sound : StaysSound
 stays-sound c b is =
-    let left = leaves-is (length b) b (read b) (record { is = is; length-is = refl; table = refl; held = reading b is }) c in
+    let left = leaves-is (length b) b (read b) (shown b is) c in
     (left .is, left .length-is)
 
 pub two : 1 < size
@@ -55,7 +42,7 @@ module _ (n : ℕ) (b : List ℕ) (some : 1 ≤ n) (few : n ≤ 64) (room : leng
   abbrev fits : ℕ → Bool
   fits k = leb (lengthFor k) (length b)
 
-  start-shows : Shows (length b) start (freshTable n)
+  pub start-shows : Shows (length b) start (freshTable n)
   unfolding image refused refusals refusing after freshTable
   start-shows =
       subst⁻¹ (λ (s : List ℕ). Shows (length b) s (freshTable n)) (simp (le-leb 1 n some, le-leb n 64 few, le-leb (lengthFor n) (length b) room))

@@ -24,12 +24,11 @@ use Rattle.layout.specs.Layout.{read}
 use Rattle.soundness.specs.SoundImage.{sound}
 use Rattle.image.specs.Call.{refused, reply, image}
 use Rattle.image.specs.Turn as T
-use Rattle.image.specs.Turn.{Turn, nobody, stepOf, turnOf, found, moved, Gives}
+use Rattle.image.specs.Turn.{Turn, nobody, stepBy, turnOf, found, moved, Gives}
 use Rattle.line.specs.Corollaries.{OneOf}
 use Rattle.line.specs.History.{state}
-use Rattle.claims.proofs.Images.{leaves-is}
+use Rattle.claims.proofs.Images.{leaves-is, shown}
 use Rattle.claims.proofs.Promises.{stays-sound}
-use Rattle.claims.proofs.Shown.{shown}
 use Rattle.claims.specs.Claims.{images}
 use Rattle.claims.specs.Turns.{Move, call, turn, Past, stepping, turning, past, imageAfter, Able, Faithful, Fair, NotRefused}
 
@@ -55,7 +54,7 @@ module _ (b : List ℕ) (x : Past) where
   unfolding turning state
   gives-is (T.refused k) r b′ m′ g = (g .1, g .2)
   gives-is nobody r b′ m′ g = (g .1, g .2)
-  gives-is (stepOf p) r b′ m′ g =
+  gives-is (stepBy p) r b′ m′ g =
       stepping-or (λ r′ y. r ≡ r′ → (b′ ≡ state images b (y .calls)) × (m′ ≡ y .marker)) p x
       (λ k e. (g .0 .leaves, g .1 ∙ ap (moved p (x .marker)) e))
       (λ a e. (g .0 .leaves, g .1 ∙ ap (moved p (x .marker)) e))
@@ -87,7 +86,7 @@ module _ (b : List ℕ) (m : ℕ) (is : sound b ≡ true) where
       (P : Turn → Type 0)
       → (within 1 (read b .n) m ≡ false → P (T.refused 10))
       → (1 ≤ m → m ≤ read b .n → ((i : ℕ) → 1 ≤ i → i ≤ read b .n → rests (read b) i ≡ true) → P nobody)
-      → ((q : ℕ) → Serves b m q → P (stepOf q))
+      → ((q : ℕ) → Serves b m q → P (stepBy q))
       → P (turnOf b m)
   unfolding turnOf refusing nextAfter
   turn-is P outside none·can one =
@@ -110,11 +109,6 @@ module _ (b : List ℕ) (m : ℕ) (is : sound b ≡ true) where
       }))
       (λ all _. none·can (k .0) (k .1) (λ i low high. not-false (rests (read b) i) (all i low high)))
       refl))
-
-  pub serves : (q : ℕ) → turnOf b m ≡ stepOf q → Serves b m q
-  serves q =
-      turn-is (λ t. t ≡ stepOf q → Serves b m q) (λ o e. absurd (let z : _≡_ {A = ℕ} 0 1 = cc in omega arith)) (λ low high all e. absurd (let z : _≡_ {A = ℕ} 0 1 = cc in omega arith))
-      (λ r s e. let same : r ≡ q = cc in subst (Serves b m) same s)
 
 -- whoever can step is served, or has fewer asked before it from then on
 pub serves-closer :

@@ -7,8 +7,7 @@ use mathlib.Core.Logic.{_⊎_}
 use lib.ListN.{length}
 use Rattle.link.specs.Count.{size}
 use Rattle.stage.specs.Answers.{answerOf}
-use Rattle.stage.specs.Calls.{Call, setUp, beginAcquisition, beginRelease, step, takeLog, rests, capacity}
-use Rattle.stage.specs.Table.{Table}
+use Rattle.stage.specs.Calls.{Call, beginRelease, step, rests, capacity}
 use Rattle.stage.specs.declared.Answer.{Answer}
 use Rattle.stage.specs.declared.Event.the-variants.{Admitted}
 use Rattle.stage.specs.declared.Reply.{Reply}
@@ -16,10 +15,10 @@ use Rattle.stage.specs.declared.Reply.the-variants.{Refused, Answered}
 use Rattle.layout.specs.Layout.{read}
 use Rattle.soundness.specs.SoundImage.{sound}
 use Rattle.image.specs.Call.{Does, reply}
-use Rattle.image.specs.Turn.{Turn, refused, nobody, stepOf, turnOf, GivesTurn}
+use Rattle.image.specs.Turn.{Turn, refused, nobody, stepBy, turnOf, GivesTurn}
 use Rattle.line.specs.Corollaries.{OneOf}
 use Rattle.line.specs.Demand3.{Premise}
-use Rattle.line.specs.History.{Transcript, course, state, table, transcript}
+use Rattle.line.specs.History.{Transcript, Ongoing, course, state, table, transcript}
 use Rattle.claims.specs.Claims.{images, OfFresh}
 
 pub data Move : Type 0 where
@@ -41,7 +40,7 @@ stepping p (Answered a) x = record { calls = step p ∷ x .calls; marker = p; se
 unfoldable pub turning : Turn → List ℕ → Past → Past
 turning (refused k) b x = x
 turning nobody b x = record { calls = x .calls; marker = x .marker; served = 0 ∷ x .served }
-turning (stepOf p) b x = stepping p (reply (step p) b) x
+turning (stepBy p) b x = stepping p (reply (step p) b) x
 
 -- A list of moves, the latest first, from the image b and the marker m.
 module _ (b : List ℕ) (m : ℕ) where
@@ -90,15 +89,11 @@ unfoldable pub Admits : Transcript → Type 0
 Admits [] = ⊥
 Admits (x ∷ earlier) = ((q : ℕ) × (x .1 ≡ Answered (answerOf (Admitted q)))) ⊎ Admits earlier
 
--- no set-up: "A new set-up starts a new history."
-unfoldable pub Ongoing : List Move → Type 0
-Ongoing [] = Unit {0}
-Ongoing (call (setUp k) ∷ earlier) = ⊥
-Ongoing (call (beginAcquisition p r) ∷ earlier) = Ongoing earlier
-Ongoing (call (beginRelease p) ∷ earlier) = Ongoing earlier
-Ongoing (call (step p) ∷ earlier) = Ongoing earlier
-Ongoing (call (takeLog room) ∷ earlier) = Ongoing earlier
-Ongoing (turn ∷ earlier) = Ongoing earlier
+-- no set-up among them
+unfoldable pub GoOn : List Move → Type 0
+GoOn [] = Unit {0}
+GoOn (call c ∷ earlier) = Ongoing c × GoOn earlier
+GoOn (turn ∷ earlier) = GoOn earlier
 
 -- From the begin of a release of p, which is inside while somebody waits in the line, 6n - 1 accepted turns do not pass without an admission. In
 -- demand 3's histories, whatever calls fall between; by demand 3 whoever is admitted is the line's first.
@@ -109,6 +104,6 @@ HandedOn =
     → let s = state images b (beginRelease p ∷ cs) in
     let x = past s m ms in
     Premise images b size (x .calls ++ beginRelease p ∷ cs)
-    → table images b cs .private p .stage ≡ 13 → 2 ≤ length (course (transcript images b cs) .line) → Ongoing ms
+    → table images b cs .private p .stage ≡ 13 → 2 ≤ length (course (transcript images b cs) .line) → GoOn ms
     → 6 * (read s .n) ≤ length (x .served) + 1
     → Admits (transcript images s (x .calls)))

@@ -23,8 +23,10 @@ use Rattle.stage.proofs.Events.{Of, agrees}
 use Rattle.stage.proofs.Refusing.{Unrefused, refused-or, is-within}
 use Rattle.layout.specs.Layout.{read}
 use Rattle.image.specs.Call.{refused, reply}
+use Rattle.image.specs.Turn as T
+use Rattle.image.specs.Turn.{Turn, nobody, stepBy, turnOf, Gives}
 use Rattle.image.proofs.Sound.{table}
-use Rattle.desk.specs.Packed.{top, packed, takes, eventOf, unpacked, LosesNothing}
+use Rattle.desk.specs.Packed.{top, packed, takes, eventOf, unpacked, LosesNothing, TurnsToo}
 
 -- what is said comes back
 abbrev Back : Bool → Reply → Type 0
@@ -84,6 +86,15 @@ pub loses-nothing : LosesNothing
 unfolding reply
 loses-nothing c b =
     refused-or (Back (takes c)) (refused c b) Refused (Answered (answered (next size) c (read b))) (refusal (takes c)) (accepted c b)
+
+pub turns-too : TurnsToo
+unfolding packed unpacked eventOf
+turns-too b m r b′ m′ = by-turn (turnOf b m)
+  where
+    by-turn : (t : Turn) → Gives t b m r b′ m′ → Back false r
+    by-turn (T.refused k) g = subst⁻¹ (Back false) (g .0) (refusal false k)
+    by-turn nobody g = subst⁻¹ (Back false) (g .0) refl
+    by-turn (stepBy p) g = subst⁻¹ (Back false) (g .0 .says) (loses-nothing (step p) b)
 
 -- so two calls that a caller cannot tell apart by the number said the same
 pub same-said : (c c′ : Call) (b b′ : List ℕ) → takes c ≡ takes c′ → packed (reply c b) ≡ packed (reply c′ b′) → reply c b ≡ reply c′ b′

@@ -18,11 +18,11 @@ use Rattle.image.specs.Call.{Does}
 pub data Turn : Type 0 where
   refused : ℕ → Turn
   nobody : Turn
-  stepOf : ℕ → Turn
+  stepBy : ℕ → Turn
 
 abbrev pub found : Option ℕ → Turn
 found none = nobody
-found (some p) = stepOf p
+found (some p) = stepBy p
 
 -- "Refusals: 10, marker not 1 to n, after 1."
 unfoldable pub turnOf : List ℕ → ℕ → Turn
@@ -39,7 +39,7 @@ abbrev pub Gives : Turn → (b : List ℕ) (m : ℕ) (r : Reply) (b′ : List �
 Gives (refused k) b m r b′ m′ = (r ≡ Refused k) × (b′ ≡ b) × (m′ ≡ m)
 -- "If nobody can step, the answer is 9 and the marker stays."
 Gives nobody b m r b′ m′ = (r ≡ Answered (answerOf Nobody)) × (b′ ≡ b) × (m′ ≡ m)
-Gives (stepOf p) b m r b′ m′ = Does (step p) b r b′ × (m′ ≡ moved p m r)
+Gives (stepBy p) b m r b′ m′ = Does (step p) b r b′ × (m′ ≡ moved p m r)
 
 abbrev pub GivesTurn : (b : List ℕ) (m : ℕ) (r : Reply) (b′ : List ℕ) (m′ : ℕ) → Type 0
 GivesTurn b m = Gives (turnOf b m) b m

@@ -22,6 +22,7 @@ use Rattle.stage.specs.declared.Private.{Private}
 use Rattle.stage.specs.declared.Shared.{Shared}
 use Rattle.stage.specs.declared.Stepped.{Stepped}
 use Rattle.line.specs.Demand3.{reads}
+use Rattle.line.specs.History.{Ongoing}
 use Rattle.stage.proofs.ByStage.{by-stage}
 
 -- a link is as it was, or one change on
@@ -120,14 +121,6 @@ StillAt c t sh′ q me′ =
 
 abbrev pub Still : Call → Table → Table → ℕ → Type 0
 Still c t t′ q = StillAt c t (t′ .shared) q (t′ .private q)
-
--- no set-up
-abbrev pub Ongoing : Call → Type 0
-Ongoing (setUp k) = ⊥
-Ongoing (beginAcquisition p r) = Unit {0}
-Ongoing (beginRelease p) = Unit {0}
-Ongoing (step p) = Unit {0}
-Ongoing (takeLog room) = Unit {0}
 
 module _ (t : Table) (known : (p : ℕ) → t .private p .stage ≤ last) where
   pub links-on : (c : Call) → Ongoing c → (x : ℕ) → OneOn (t .shared x .link) (after suc c t .shared x .link)

@@ -3,7 +3,7 @@
 use Prim.Native.Nat.{ℕ, suc, _<_}
 use mathlib.Core.Path.{_≡_, refl, sym, _∙_, subst, subst⁻¹, transport}
 use mathlib.Core.Bool.{Bool, true, false}
-use mathlib.Core.List.{List, [], _∷_, _++_}
+use mathlib.Core.List.{List, [], _∷_}
 use mathlib.Core.Logic.{inl, inr, ⊎-elim}
 use lib.Dec.{T, eqb}
 use borrow.Author.Tests.{eqb-true, not-false}
@@ -18,16 +18,15 @@ use Rattle.stage.specs.declared.Reply.{Reply}
 use Rattle.stage.specs.declared.Reply.the-variants.{Refused, Answered}
 use Rattle.line.specs.Corollaries.{stepIn, stepsNow}
 use Rattle.line.specs.Demand3.{Premise}
-use Rattle.line.specs.History.{Desk, Course, Transcript, accepted, heard, course, state, table, transcript}
+use Rattle.line.specs.History.{Desk, Course, Transcript, Ongoing, accepted, heard, course, state, table, transcript}
 use Rattle.line.specs.Mixed.{calledBy}
 use Rattle.line.specs.PlainLine.{Place}
 use Rattle.line.proofs.Alike.{never, premise, heard-alike}
-use Rattle.line.proofs.Counted.{Ongoing}
 use Rattle.line.proofs.Desks.{mixedTables}
 use Rattle.line.proofs.Ideal.{ideal-kept}
 use Rattle.line.proofs.Invariant.{Inv, waiters, leavers}
 use Rattle.line.proofs.Modular.{follows}
-use Rattle.line.proofs.Release.{Leaves, Freed, Goes, HandsOn}
+use Rattle.line.proofs.Release.{busy, Leaves, Freed, Goes, HandsOn}
 use Rattle.line.proofs.Releasing.{step-goes}
 use Rattle.line.proofs.WrapCalls.{wrap}
 
@@ -46,10 +45,7 @@ leaves-as e e′ v =
 freed-as : {t u : Table} {x : ℕ} → u .private x .stage ≡ t .private x .stage → u .shared x .locked ≡ t .shared x .locked → Freed x t → Freed x u
 freed-as e e′ f = record { waiter = subst⁻¹ (λ (k : ℕ). T (among k waiters)) e (f .waiter); freed = e′ ∙ f .freed }
 
--- A call that is no step of anybody: nobody from its leave to its admission is moved by it, and the line and every Locked stay.
-abbrev busy : List ℕ
-busy = 14 ∷ waiters ++ leavers
-
+-- A call that is no step of anybody: who is busy is not moved by it, and the line and every Locked stay.
 quiet : (c : Call) (r : Reply) (t t′ : Table) (l : List Place)
     → ((p : ℕ) → stepsNow p (stepIn c r) ≡ false)
     → t′ .n ≡ t .n

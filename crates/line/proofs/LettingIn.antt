@@ -1,6 +1,6 @@
 -- R-1's addition: in a history wholly under R-1 a step at stage 6 that looks at a module inside does not return to stage 1. Assumes nothing.
 use Prim.Native.Nat.{ℕ, suc, _<_}
-use mathlib.Core.Path.{_≡_, sym, _∙_, ap, subst, subst⁻¹, subst₂}
+use mathlib.Core.Path.{_≡_, sym, _∙_, ap, subst⁻¹, subst₂}
 use mathlib.Core.Bool.{Bool, false, cond}
 use mathlib.Core.List.{List, [], _∷_}
 use mathlib.Core.Logic.{_≢_, ⊎-elim}

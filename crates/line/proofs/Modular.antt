@@ -21,9 +21,9 @@ use Rattle.stage.specs.Rows.{last}
 use Rattle.stage.specs.Table.{Table, idle, freshTable}
 use Rattle.stage.specs.declared.Reply.{Reply}
 use Rattle.line.specs.Demand3.{changed, reads, changesSince, InTime, Premise, Holds, Demand3}
-use Rattle.line.specs.History.{Desk, Course, course, takes, state, table, transcript, taken}
+use Rattle.line.specs.History.{Desk, Course, Ongoing, course, takes, state, table, transcript, taken}
 use Rattle.line.specs.Mixed.{unraised}
-use Rattle.line.proofs.Counted.{OneOn, readers, Ongoing, links-on, still, Counts, counts-on}
+use Rattle.line.proofs.Counted.{OneOn, readers, links-on, still, Counts, counts-on}
 use Rattle.line.proofs.Desks.{calledTable, mixedTables, by-desk}
 use Rattle.line.proofs.Facts.{seeks-at}
 use Rattle.line.proofs.Holding.{kept-holds}

@@ -2,7 +2,7 @@
 use Prim.Native.Nat.{ℕ, _+_, _≤_}
 use mathlib.Core.Path.{_≡_}
 use mathlib.Core.Bool.{true, false}
-use mathlib.Core.List.{List, [], _∷_}
+use mathlib.Core.List.{List, [], _∷_, _++_}
 use mathlib.Core.Logic.{_⊎_, _≢_}
 use lib.Dec.{T}
 use lib.ListN.{length}
@@ -15,11 +15,14 @@ use Rattle.stage.specs.declared.Reply.{Reply}
 use Rattle.stage.specs.declared.Reply.the-variants.{Answered}
 use Rattle.line.specs.Corollaries.{stepIn, stepsNow}
 use Rattle.line.specs.Demand3.{Premise}
-use Rattle.line.specs.History.{Desk, course, state, table, transcript}
+use Rattle.line.specs.History.{Desk, Ongoing, course, state, table, transcript}
 use Rattle.line.specs.PlainLine.{Place}
-use Rattle.line.proofs.Counted.{Ongoing}
 use Rattle.line.proofs.Invariant.{leavers, waiters}
 use Rattle.line.proofs.Places.{head}
+
+-- the stages of those that it needs: about to leave, waiting, leaving
+abbrev pub busy : List ℕ
+busy = 14 ∷ waiters ++ leavers
 
 -- p is about to leave, and somebody stands behind it
 abbrev pub Begun : ℕ → Table → List Place → Type 0

@@ -51,7 +51,15 @@ stepping p Finished o = o
 stepping p (Taken k) o = o
 stepping p Nobody o = o
 
--- an accepted call with its event. "A new set-up starts a new history."
+-- "A new set-up starts a new history": every other call goes on with one
+abbrev pub Ongoing : Call → Type 0
+Ongoing (setUp k) = ⊥
+Ongoing (beginAcquisition p r) = Unit {0}
+Ongoing (beginRelease p) = Unit {0}
+Ongoing (step p) = Unit {0}
+Ongoing (takeLog room) = Unit {0}
+
+-- an accepted call with its event
 unfoldable pub accepted : Call → Event → Course → Course
 accepted (setUp k) e o = start
 accepted (beginAcquisition p r) e o = record { line = o .line; firsts = o .firsts; given = upd (o .given) p r }
