@@ -1,5 +1,5 @@
-/* B1 to B4 and B7 of document 01's bench table, as R-1 of document 02 has changed them, run through the header. Prints the line after each, and
- * the log; every figure of the table is checked, and the first that differs ends the program with 1. */
+/* B1 to B4 and B7 of document 01's bench table, as R-1 of document 02 has changed them, and then turns, run through the header. Prints the line
+ * after each, the log, and whom the turns served; every figure of the table is checked, and the first that differs ends the program with 1. */
 #include "mokroshel.h"
 
 #include <stdio.h>
@@ -69,6 +69,49 @@ static void run_b1(void) {
     print_line("B1");
 }
 
+/* After B7: 1 is inside, 2 idle, and 3 waits. Turns step 3 in vain until 1 releases; then 1 and 3 one after the other, until 3 is admitted. */
+static void run_turns(void) {
+    static const struct {
+        unsigned served, number;
+    } expected[] = {
+        {3, MOKROSHEL_WAITING},  /* around the table, past 1 and 2 */
+        {1, MOKROSHEL_LEFT},     /* stage 14 */
+        {3, MOKROSHEL_WAITING},
+        {1, MOKROSHEL_DONE},     /* 15 */
+        {3, MOKROSHEL_WAITING},
+        {1, MOKROSHEL_DONE},     /* 16 */
+        {3, MOKROSHEL_WAITING},
+        {1, MOKROSHEL_DONE},     /* 17 */
+        {3, MOKROSHEL_WAITING},
+        {1, MOKROSHEL_FINISHED}, /* 18 */
+        {3, MOKROSHEL_ADMITTED},
+        {3, MOKROSHEL_NOBODY},   /* 1 and 2 are idle, 3 is inside: the marker stays */
+    };
+    struct mokroshel_marker marker = {0};
+    refused("marker 0", mokroshel_turn(image, LENGTH, &marker), MOKROSHEL_BAD_MARKER);
+    same("marker 0 stays", marker.last, 0);
+    marker.last = N + 1;
+    refused("marker 4", mokroshel_turn(image, LENGTH, &marker), MOKROSHEL_BAD_MARKER);
+    same("marker 4 stays", marker.last, N + 1);
+    refused("a short image", mokroshel_turn(image, 11, &marker), MOKROSHEL_UNSOUND);
+
+    marker.last = N;
+    printf("turns");
+    for (size_t k = 0; k < sizeof expected / sizeof expected[0]; k++) {
+        uint32_t said = mokroshel_turn(image, LENGTH, &marker);
+        same("turn", (unsigned long)mokroshel_refused(said), 0);
+        same("turn answers", mokroshel_number(said), expected[k].number);
+        same("turn serves", marker.last, expected[k].served);
+        same("turn admits", mokroshel_admitted(said), expected[k].number == MOKROSHEL_ADMITTED ? expected[k].served : 0);
+        if (expected[k].number != MOKROSHEL_NOBODY)
+            printf(" %u", (unsigned)marker.last);
+        if (k == 0)
+            same("1 releases", mokroshel_begin_release(image, LENGTH, 1), MOKROSHEL_DONE);
+    }
+    printf("\n");
+    print_line("turns");
+}
+
 int main(void) {
     uint8_t log[MOKROSHEL_LOG];
     memset(image, 0xa5, sizeof image);
@@ -136,6 +179,8 @@ int main(void) {
     link_is("B7 link 1", 1, 3, 0, 3);
     link_is("B7 link 3", 3, 0, 0, 3);
     print_line("B7");
+
+    run_turns();
 
     for (size_t k = 0; k < OWNERS; k++)
         same("owner's byte", image[k], 0xa5);

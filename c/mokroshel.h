@@ -1,4 +1,4 @@
-/* Mokroshel: a lock of modules with priorities, on an image of bytes. The five calls, for C.
+/* Mokroshel: a lock of modules with priorities, on an image of bytes. The five calls and the turn, for C.
  *
  * The functions are those of crates/desk, which is proved: what each answers and every byte that it leaves. `c/check` holds this header
  * to that source.
@@ -21,11 +21,24 @@
  * Steps of several modules may fall between one another in any order. The calls themselves may not: one call on an image ends before the next
  * begins. A caller with several threads puts a lock of its own around each call.
  *
- * The log. Each admission adds one entry, the module's number, to the held log, which has room for 256. Take it with mokroshel_take_log before
- * it is full: while it is, a step that would admit is refused (5) and changes nothing. A buffer of MOKROSHEL_LOG bytes always suffices.
+ * Turns. A caller that need not choose whom to step lets the desk choose, so that its own loop starves nobody. A marker, which the caller keeps
+ * beside the image, holds the module served last; a first marker of n makes module 1 the first.
  *
- * What a call says is one number: read it with the four functions at the end of this file, not by hand. A refused call leaves the image and the
- * log buffer as they were. If several refusals apply, the lowest number is given.
+ *   1. Begin acquisitions and releases as above, whenever it suits.
+ *   2. mokroshel_turn steps the first module after the marker around the table, the marker's own module last, that is neither idle nor inside.
+ *      It answers as that step does, and marker.last then tells whose step it was. MOKROSHEL_NOBODY says that all are idle or inside: image
+ *      and marker stay, and so will it be until something begins.
+ *   3. A turn that is refused (5) leaves the marker too: turns meet that module again, and serve nobody behind it, until the log is taken.
+ *
+ * With one marker that only turns move, a module that is neither idle nor inside over n accepted turns is stepped in one of them, whatever calls
+ * for other modules fall between: steps and turns may be mixed.
+ *
+ * The log. Each admission adds one entry, the module's number, to the held log, which has room for 256. Take it with mokroshel_take_log before
+ * it is full: while it is, a step or turn that would admit is refused (5) and changes nothing. A buffer of MOKROSHEL_LOG bytes always suffices.
+ *
+ * What a call says is one number: read it with the four functions at the end of this file, not by hand. A refused call leaves the image, the
+ * log buffer and the marker as they were. If several refusals apply, the lowest number is given; but 10 comes before 5, for a wrong marker
+ * chooses no module that could be admitted. (9 is a refusal of the program `turns` and of no call.)
  *
  *   1  MOKROSHEL_UNSOUND       The image is unsound: it was never set up, the length is another one, or somebody wrote into it. Nothing in it
  *                              can be trusted: set it up anew.
@@ -33,15 +46,17 @@
  *   3  MOKROSHEL_NO_PRIORITY   The priority is not 1 to 254. Correct the caller.
  *   4  MOKROSHEL_WRONG_STAGE   Begin acquisition where the module is not idle, begin release where it is not inside, or a step where it is idle or
  *                              inside. Correct the order of the calls.
- *   5  MOKROSHEL_LOG_FULL      The step would admit and the log holds 256. Take the log, then step again.
+ *   5  MOKROSHEL_LOG_FULL      The step, or that of the turn, would admit and the log holds 256. Take the log, then step again.
  *   6  MOKROSHEL_LOG_BUFFER    The buffer for the log is shorter than the log. Lend a longer one.
  *   7  MOKROSHEL_BAD_N         Set-up with n not 1 to 64. Correct the caller.
  *   8  MOKROSHEL_SHORT_IMAGE   Set-up with a buffer shorter than 16n + 268. Lend a longer one.
+ *  10  MOKROSHEL_BAD_MARKER    The turn marker is not 1 to n. Correct the caller.
  *
- * The calls allocate nothing and keep nothing outside the two buffers: of the C library the archive asks for memcpy and memset alone.
+ * The calls allocate nothing and keep nothing outside what they are lent: of the C library the archive asks for memcpy and memset alone.
  *
  * What a caller owes, since no proof can see it: a pointer is not null, also where its length is 0, and is valid for reading and writing as many
- * bytes as its length says; the image and the log buffer do not overlap; nobody else reads or writes either during the call. */
+ * bytes as its length says; the pointer to a marker is valid for reading and writing one; the image, the log buffer and the marker do not overlap;
+ * nobody else reads or writes any of them during the call. */
 #ifndef MOKROSHEL_H
 #define MOKROSHEL_H
 
@@ -63,7 +78,8 @@ enum {
     MOKROSHEL_ADMITTED = 2, /* the module is inside */
     MOKROSHEL_JOINED = 3,   /* the module has joined the line */
     MOKROSHEL_LEFT = 4,     /* the first step of a release: nobody can join behind the module any more */
-    MOKROSHEL_FINISHED = 5  /* the release is finished, the module is idle */
+    MOKROSHEL_FINISHED = 5, /* the release is finished, the module is idle */
+    MOKROSHEL_NOBODY = 9    /* a turn alone: nobody can step, nothing changed */
 };
 
 /* What a call is refused for. */
@@ -75,7 +91,13 @@ enum {
     MOKROSHEL_LOG_FULL = 5,
     MOKROSHEL_LOG_BUFFER = 6,
     MOKROSHEL_BAD_N = 7,
-    MOKROSHEL_SHORT_IMAGE = 8
+    MOKROSHEL_SHORT_IMAGE = 8,
+    MOKROSHEL_BAD_MARKER = 10
+};
+
+/* The turn marker: the module served last. */
+struct mokroshel_marker {
+    uint32_t last;
 };
 
 /* Sets up a fresh table of n modules at the end of the buffer: all idle, the lock free, the log empty. It looks at no earlier byte of the image.
@@ -88,13 +110,17 @@ uint32_t mokroshel_begin_acquisition(uint8_t *image, size_t image_length, uint32
 /* Begins a release by the module p, which is inside. Answers MOKROSHEL_DONE; refused 1, 2 or 4. */
 uint32_t mokroshel_begin_release(uint8_t *image, size_t image_length, uint32_t p);
 
-/* Takes one step for the module p: one access to shared data, the log apart. Answers any of the six, and for MOKROSHEL_ADMITTED the admitted
- * module, which is p; refused 1, 2, 4 or 5. */
+/* Takes one step for the module p: one access to shared data, the log apart. Answers any but MOKROSHEL_NOBODY, and for MOKROSHEL_ADMITTED the
+ * admitted module, which is p; refused 1, 2, 4 or 5. */
 uint32_t mokroshel_step(uint8_t *image, size_t image_length, uint32_t p);
 
 /* Takes the log: writes its entries, the earliest first, to the first bytes of the log buffer, keeps the buffer's others, and makes the held log
  * empty. Answers MOKROSHEL_DONE and the length of the log taken; refused 1 or 6. */
 uint32_t mokroshel_take_log(uint8_t *image, size_t image_length, uint8_t *log, size_t log_length);
+
+/* Hands out a turn: steps the first module after the marker around the table, the marker's own module last, that is neither idle nor inside, and
+ * makes the marker that module. Answers as the step does, or MOKROSHEL_NOBODY; refused 1, 10 or 5, in this order. */
+uint32_t mokroshel_turn(uint8_t *image, size_t image_length, struct mokroshel_marker *marker);
 
 /* What a call said, part by part: the parts are those that `unpacked` in crates/desk/specs/Packed.antt reads. That reading is proved to give
  * back all that the call said; the lines of C below are not proved, example.c runs them.

@@ -35,7 +35,7 @@ use Rattle.line.specs.PlainLine.{Place}
 use Rattle.claims.proofs.HandingOn.{today-hands-on}
 use Rattle.claims.proofs.Images.{leaves-is, shown, known, read-idle}
 use Rattle.claims.proofs.Promises.{start-shows}
-use Rattle.claims.proofs.Turns.{Serves, serves-closer, after-turn, calls-stay}
+use Rattle.claims.proofs.Turns.{Serves, serves-closer, able-known, calls-stay, after-turn}
 use Rattle.claims.specs.Claims.{images}
 use Rattle.claims.specs.Turns.{Move, call, turn, Past, past, Admits, GoOn, HandedOn}
 
@@ -110,10 +110,6 @@ module _ (n : ℕ) where
         let most =
         ahead-other n (h .0) a (t .serves .low) (subst (λ (j : ℕ). h .0 ≤ j) same (t .serves .high)) low high (λ e. other (e ∙ t .alone p steps)) in
         subst₂ (Within 1 (k + n) a) (sym (t .counted)) (sym (t .marked)) (omega arith, λ _ _. omega arith)
-
--- whoever can step is a module of the table
-able-known : (b : List ℕ) (a : ℕ) → rests (read b) a ≡ false → (1 ≤ a) × (a ≤ read b .n)
-able-known b a can = known (read b) (read-idle b) a (λ e. true≢false (sym (ap (λ (k : ℕ). eqb k 0 || eqb k 13) e) ∙ can))
 
 -- A release of p that begins after the calls cs on the image b.
 module _ (b : List ℕ) (is : sound b ≡ true) (hands : HandsOn images b size) (cs : List Call) (p : ℕ) where

@@ -4,3 +4,4 @@ pub mod Promises
 pub mod Turns
 pub mod HandingOn
 pub mod HandedOn
+pub mod Reached

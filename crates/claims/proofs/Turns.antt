@@ -1,10 +1,11 @@
 -- Turns on sound images: what a turn comes to, that histories with turns are those of the contracts, and that turns are fair. Assumes nothing.
 use Prim.Native.Nat.{ℕ, _+_, _≤_, _<_}
 use mathlib.Core.Path.{_≡_, refl, sym, _∙_, ap, subst, subst⁻¹}
-use mathlib.Core.Bool.{true, false, not, and-false, true≢false}
+use mathlib.Core.Bool.{true, false, not, _||_, and-false, true≢false}
 use mathlib.Core.List.{List, [], _∷_}
 use mathlib.Core.Logic.{_⊎_, inl, inr, ⊎-elim}
 use mathlib.Core.Option.{some}
+use lib.Dec.{eqb}
 use lib.ListN.{length}
 use borrow.Author.Tests.{le-leb, lt-leb, not-true, not-false}
 use native.Mathlib.Omega.{arith}
@@ -27,7 +28,7 @@ use Rattle.image.specs.Turn as T
 use Rattle.image.specs.Turn.{Turn, nobody, stepBy, turnOf, found, moved, Gives}
 use Rattle.line.specs.Corollaries.{OneOf}
 use Rattle.line.specs.History.{state}
-use Rattle.claims.proofs.Images.{leaves-is, shown}
+use Rattle.claims.proofs.Images.{leaves-is, shown, known, read-idle}
 use Rattle.claims.proofs.Promises.{stays-sound}
 use Rattle.claims.specs.Claims.{images}
 use Rattle.claims.specs.Turns.{Move, call, turn, Past, stepping, turning, past, imageAfter, Able, Faithful, Fair, NotRefused}
@@ -169,6 +170,15 @@ pub able-earlier : (b : List ℕ) (m p : ℕ) (x : Move) (earlier : List Move) �
 unfolding Able
 able-earlier b m p x earlier a = a .1
 
+pub able-first : (b : List ℕ) (m p : ℕ) (ms : List Move) → Able b m p ms → rests (read b) p ≡ false
+unfolding Able
+able-first b m p [] a = a
+able-first b m p (x ∷ earlier) a = able-first b m p earlier (a .1)
+
+-- whoever can step is a module of the table
+pub able-known : (b : List ℕ) (a : ℕ) → rests (read b) a ≡ false → (1 ≤ a) × (a ≤ read b .n)
+able-known b a can = known (read b) (read-idle b) a (λ e. true≢false (sym (ap (λ (k : ℕ). eqb k 0 || eqb k 13) e) ∙ can))
+
 -- the image stays sound, over calls and over moves
 pub calls-stay : (b : List ℕ) → sound b ≡ true → (cs : List Call) → sound (state images b cs) ≡ true
 unfolding state
@@ -259,4 +269,6 @@ module _ (b : List ℕ) (m : ℕ) (is : sound b ≡ true) where
           (λ q r s _. served-more q (past b m earlier) s same can old)
 
 pub fair : Fair
-fair b m is ms p low high can many = ⊎-elim (λ i. i) (λ d. absurd (omega (arith, d .0, many))) (due b m is p low high ms can)
+fair b m is ms p can many =
+    let k = able-known b p (able-first b m p ms can) in
+    ⊎-elim (λ i. i) (λ d. absurd (omega (arith, d .0, many))) (due b m is p (k .0) (k .1) ms can)

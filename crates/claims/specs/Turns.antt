@@ -1,5 +1,5 @@
 -- Document 02, R-2, of histories on images: calls, and turns with one marker.
-use Prim.Native.Nat.{ℕ, _+_, _*_, _≤_, _<_}
+use Prim.Native.Nat.{ℕ, zero, suc, _+_, _*_, _≤_, _<_}
 use mathlib.Core.Path.{_≡_}
 use mathlib.Core.Bool.{true, false}
 use mathlib.Core.List.{List, [], _∷_, _++_}
@@ -7,14 +7,14 @@ use mathlib.Core.Logic.{_⊎_}
 use lib.ListN.{length}
 use Rattle.link.specs.Count.{size}
 use Rattle.stage.specs.Answers.{answerOf}
-use Rattle.stage.specs.Calls.{Call, beginRelease, step, rests, capacity}
+use Rattle.stage.specs.Calls.{Call, setUp, beginAcquisition, beginRelease, step, rests, capacity}
 use Rattle.stage.specs.declared.Answer.{Answer}
 use Rattle.stage.specs.declared.Event.the-variants.{Admitted}
 use Rattle.stage.specs.declared.Reply.{Reply}
 use Rattle.stage.specs.declared.Reply.the-variants.{Refused, Answered}
 use Rattle.layout.specs.Layout.{read}
 use Rattle.soundness.specs.SoundImage.{sound}
-use Rattle.image.specs.Call.{Does, reply}
+use Rattle.image.specs.Call.{Does, reply, image}
 use Rattle.image.specs.Turn.{Turn, refused, nobody, stepBy, turnOf, GivesTurn}
 use Rattle.line.specs.Corollaries.{OneOf}
 use Rattle.line.specs.Demand3.{Premise}
@@ -75,7 +75,7 @@ pub record Faithful (b : List ℕ) (m : ℕ) (earlier : List Move) : Type 0 wher
 abbrev pub Fair : Type 0
 Fair =
     (b : List ℕ) (m : ℕ) → sound b ≡ true
-    → (ms : List Move) (p : ℕ) → 1 ≤ p → p ≤ read b .n → Able b m p ms
+    → (ms : List Move) (p : ℕ) → Able b m p ms
     → read b .n ≤ length (past b m ms .served) → OneOf p (past b m ms .served)
 
 -- With room in the log a turn is not refused.
@@ -107,3 +107,20 @@ HandedOn =
     → table images b cs .private p .stage ≡ 13 → 2 ≤ length (course (transcript images b cs) .line) → GoOn ms
     → 6 * (read s .n) ≤ length (x .served) + 1
     → Admits (transcript images s (x .calls)))
+
+-- k of the same
+unfoldable pub times : {A : Type 0} → ℕ → A → List A
+times zero x = []
+times (suc k) x = x ∷ times k x
+
+-- The least such number, where n is 2: module 1 is inside and 2 waits at stage 12. After the begin of 1's release ten turns are accepted and admit
+-- nobody; the eleventh admits 2.
+unfoldable pub waited : List Call
+waited = beginRelease 1 ∷ times 8 (step 2) ++ beginAcquisition 2 5 ∷ times 4 (step 1) ++ beginAcquisition 1 10 ∷ []
+
+abbrev pub Reached : Type 0
+Reached =
+    let s = state images (image (setUp 2) (times 300 0)) waited in
+    (length (past s 1 (times 10 turn) .served) ≡ 10)
+    × (read (imageAfter s 1 (times 10 turn)) .log ≡ 1 ∷ [])
+    × (read (imageAfter s 1 (times 11 turn)) .log ≡ 1 ∷ 2 ∷ [])

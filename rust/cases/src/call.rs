@@ -2,7 +2,7 @@
 
 use std::fmt;
 
-/// One of the five calls, with what it is given besides the image.
+/// One of the five calls or a turn, with what it is given besides the image.
 #[derive(Clone, PartialEq, Eq, Debug)]
 pub enum Call {
     /// Set up a fresh table of n modules.
@@ -32,6 +32,11 @@ pub enum Call {
         /// The buffer for the log as it is before the call.
         buffer: Vec<u8>,
     },
+    /// Hand out a turn.
+    Turn {
+        /// The marker as it is before the call.
+        last: u32,
+    },
 }
 
 impl fmt::Display for Call {
@@ -46,6 +51,7 @@ impl fmt::Display for Call {
             Call::TakeLog { buffer } => {
                 write!(f, "take the log into a buffer of {} bytes", buffer.len())
             }
+            Call::Turn { last } => write!(f, "turn, marker {last}"),
         }
     }
 }

@@ -1,6 +1,6 @@
 //! What the cases met, with counts.
 
-use reference::{row_for, Field, Row, Sheet, LAST_STAGE, RULES, STAGE_TABLE};
+use reference::{row_for, Field, Row, Sheet, LAST_STAGE, MOST_MODULES, RULES, STAGE_TABLE};
 
 use crate::{Call, Kind, DAMAGES};
 
@@ -147,10 +147,34 @@ odd_classes! {
     StepInside => "step refused 4 at stage 13",
     StepFull3 => "step refused 5 at stage 3",
     StepFull12 => "step refused 5 at stage 12",
+    TurnNext => "turn of the module right after the marker's",
+    TurnPastIdle => "turn that passes over a module at stage 0",
+    TurnPastInside => "turn that passes over a module at stage 13",
+    TurnAround => "turn that goes around from module n to a later one than 1",
+    TurnAroundTo1 => "turn that goes around from module n to 1",
+    TurnItself => "turn of the marker's own module, the last one, in a table of several",
+    TurnWaiting => "turn of a module that waits at stage 12",
+    TurnOtherFull => "turn that admits nobody while the log holds 256",
+    TurnFull3 => "turn refused 5 at stage 3",
+    TurnFull12 => "turn refused 5 at stage 12",
+    TurnFullNotAlone => "turn refused 5 where another could step",
+    NobodyIdle => "turn where all are at stage 0",
+    NobodyInside => "turn where nobody can step and some are at stage 13",
+    NobodyAlone => "turn where nobody can step in a table of 1 module",
+    NobodySeveral => "turn where nobody can step in a table of several",
+    NobodyFull => "turn where nobody can step while the log holds 256",
+    MarkerLast => "turn with marker n",
+    Marker0 => "turn refused 10, marker 0",
+    MarkerAbove => "turn refused 10, marker n + 1",
+    MarkerCut => "turn refused 10, a module when cut to a byte",
+    MarkerMax => "turn refused 10, marker 4,294,967,295",
+    BothOneTen => "unsound and a marker that no table has",
+    BothTenFive => "10 where the first of the table that can step would be refused 5",
+    BothTenNobody => "10 where nobody can step",
 }
 
 /// The refusals that each call can give.
-const REFUSALS: [(&str, u32); 15] = [
+const REFUSALS: [(&str, u32); 18] = [
     ("set up", 7),
     ("set up", 8),
     ("begin acquisition", 1),
@@ -166,6 +190,9 @@ const REFUSALS: [(&str, u32); 15] = [
     ("step", 5),
     ("take the log", 1),
     ("take the log", 6),
+    ("turn", 1),
+    ("turn", 10),
+    ("turn", 5),
 ];
 
 /// How many stages there are.
@@ -186,11 +213,17 @@ pub struct Coverage {
     calls: u64,
     rows: [u64; STAGE_TABLE.len()],
     refusals: [u64; REFUSALS.len()],
+    /// Rows carried out by turns, and turns that step by the number of modules.
+    turn_rows: [u64; STAGE_TABLE.len()],
+    turns: [u64; MOST_MODULES],
     /// The same, in histories alone.
     history_rows: [u64; STAGE_TABLE.len()],
     history_refusals: [u64; REFUSALS.len()],
     history_set_ups: u64,
     history_takings: u64,
+    history_turns: u64,
+    /// Turns where nobody can step.
+    history_nobody: u64,
     /// Stage 6 where prev is inside and less urgent by its own priority.
     history_urgent: u64,
     /// Begin acquisition and begin release refused 4, by stage.
@@ -214,10 +247,14 @@ impl Coverage {
             calls: 0,
             rows: [0; STAGE_TABLE.len()],
             refusals: [0; REFUSALS.len()],
+            turn_rows: [0; STAGE_TABLE.len()],
+            turns: [0; MOST_MODULES],
             history_rows: [0; STAGE_TABLE.len()],
             history_refusals: [0; REFUSALS.len()],
             history_set_ups: 0,
             history_takings: 0,
+            history_turns: 0,
+            history_nobody: 0,
             history_urgent: 0,
             wrong_stage: [[0; STAGES]; 2],
             rules: [0; RULES.len()],
@@ -242,6 +279,12 @@ impl Coverage {
         for ((call, number), hits) in REFUSALS.iter().zip(self.refusals) {
             add(format!("{call} refused {number}"), hits);
         }
+        for (row, hits) in STAGE_TABLE.iter().zip(self.turn_rows) {
+            add(format!("by a turn, row {}", row.name), hits);
+        }
+        for (n, hits) in (1..).zip(self.turns) {
+            add(format!("turn that steps, n = {n}"), hits);
+        }
         for (row, hits) in STAGE_TABLE.iter().zip(self.history_rows) {
             add(format!("in a history, row {}", row.name), hits);
         }
@@ -255,6 +298,11 @@ impl Coverage {
         add(
             "in a history, a log with entries taken".into(),
             self.history_takings,
+        );
+        add("in a history, a turn that steps".into(), self.history_turns);
+        add(
+            "in a history, a turn where nobody can step".into(),
+            self.history_nobody,
         );
         add(
             "in a history, stage 6 with a less urgent one inside".into(),
@@ -313,6 +361,7 @@ impl Coverage {
             Call::BeginRelease { .. } => "begin release",
             Call::Step { .. } => "step",
             Call::TakeLog { .. } => "take the log",
+            Call::Turn { .. } => "turn",
         };
         if let Some(number) = refused {
             match REFUSALS.iter().position(|known| *known == (name, number)) {
@@ -358,6 +407,12 @@ impl Coverage {
                     self.history_takings += in_history;
                 }
                 self.take_log(&sheet, buffer.len(), refused);
+            }
+            Call::Turn { last } => {
+                let stepped = self.turn(&sheet, *last, refused);
+                self.history_turns += in_history & u64::from(stepped);
+                let nobody = !stepped && refused.is_none();
+                self.history_nobody += in_history & u64::from(nobody);
             }
         }
     }
@@ -459,6 +514,66 @@ impl Coverage {
             }
             _ => self.odd_if(Odd::BothOneSix, room == 0 && length > 0),
         }
+    }
+
+    /// Says whether a turn took a step.
+    fn turn(&mut self, sheet: &Sheet, last: u32, refused: Option<u32>) -> bool {
+        if refused == Some(1) {
+            self.odd_if(Odd::BothOneTen, last == 0 || last > 64);
+            return false;
+        }
+        let n = sheet.n();
+        let stage = |p: u32| sheet.get(Field::Stage, p as u16);
+        let full = sheet.log_length() == 256;
+        // With a wrong marker: who would be the first from module 1 on.
+        let after = if refused == Some(10) { n } else { last };
+        let around: Vec<u32> = (after + 1..=n).chain(1..=after).collect();
+        let place = around.iter().position(|p| ![0, 13].contains(&stage(*p)));
+        let served = place.map(|place| around[place]);
+        let row = served.and_then(|p| row_for(&STAGE_TABLE, sheet, p as u16));
+        let admits = row.is_some_and(Row::admits);
+        if refused == Some(10) {
+            self.odd_if(Odd::Marker0, last == 0);
+            self.odd_if(Odd::MarkerAbove, last == n + 1);
+            let cut = last > 255 && (1..=n).contains(&(last & 0xff));
+            self.odd_if(Odd::MarkerCut, cut);
+            self.odd_if(Odd::MarkerMax, last == u32::MAX);
+            self.odd_if(Odd::BothTenFive, admits && full);
+            self.odd_if(Odd::BothTenNobody, served.is_none());
+            return false;
+        }
+        let (Some(place), Some(served), Some(row)) = (place, served, row) else {
+            let inside = around.iter().any(|p| stage(*p) == 13);
+            self.odd_if(Odd::NobodyIdle, !inside);
+            self.odd_if(Odd::NobodyInside, inside);
+            self.odd_if(Odd::NobodyAlone, n == 1);
+            self.odd_if(Odd::NobodySeveral, n > 1);
+            self.odd_if(Odd::NobodyFull, full);
+            return false;
+        };
+        if refused.is_some() {
+            self.odd_if(Odd::TurnFull3, row.stage == 3);
+            self.odd_if(Odd::TurnFull12, row.stage == 12);
+            let others = &around[place + 1..];
+            let another = others.iter().any(|p| ![0, 3, 12, 13].contains(&stage(*p)));
+            self.odd_if(Odd::TurnFullNotAlone, another);
+            return false;
+        }
+        let past = &around[..place];
+        self.odd_if(Odd::TurnNext, n > 1 && past.is_empty());
+        self.odd_if(Odd::TurnPastIdle, past.iter().any(|p| stage(*p) == 0));
+        self.odd_if(Odd::TurnPastInside, past.iter().any(|p| stage(*p) == 13));
+        self.odd_if(Odd::TurnAround, served > 1 && served < last);
+        self.odd_if(Odd::TurnAroundTo1, served == 1 && last > 1);
+        self.odd_if(Odd::TurnItself, n > 1 && served == last);
+        self.odd_if(Odd::TurnWaiting, row.next == 12 && row.stage == 12);
+        self.odd_if(Odd::TurnOtherFull, full);
+        self.odd_if(Odd::MarkerLast, last == n);
+        self.turns[n as usize - 1] += 1;
+        if let Some(place) = STAGE_TABLE.iter().position(|known| known == row) {
+            self.turn_rows[place] += 1;
+        }
+        true
     }
 
     /// Says which row of the table an accepted step carried out.

@@ -19,7 +19,8 @@ enum Aim {
 /// Most calls are *natural*: whatever the chosen module's stage asks for next. The others are
 /// refused ones of every number, takings of the log and new set-ups. Modules are stepped in short
 /// runs, and some fall asleep for a while, most often just before their swap, so that swaps come
-/// too late and records leave in between.
+/// too late and records leave in between. In some histories many steps are turns instead, for
+/// whoever is next.
 #[derive(Clone, Debug)]
 pub struct History {
     rng: Rng,
@@ -34,6 +35,8 @@ pub struct History {
     run: (u32, u32),
     /// How often in a thousand calls something other than a natural call is made.
     odd: u64,
+    /// How often in a thousand natural steps a turn is handed out instead.
+    turns: u64,
 }
 
 /// The module numbers that no table has, and such as become a module's when cut to fewer bits.
@@ -120,12 +123,14 @@ impl History {
             asleep: 0,
             run: (1, 0),
             odd: rng.pick(&[0, 20, 100, 300]),
+            turns: rng.pick(&[0, 100, 500, 1000]),
         };
         (history, buffer)
     }
 
-    /// The next call on the image that the calls so far have left; none at the end.
-    pub fn next_call(&mut self, image: &[u8]) -> Option<Call> {
+    /// The next call on the image and with the turn marker that the calls so far have left; none at
+    /// the end.
+    pub fn next_call(&mut self, image: &[u8], last: u32) -> Option<Call> {
         self.left = self.left.checked_sub(1)?;
         if !self.started {
             self.started = true;
@@ -144,7 +149,19 @@ impl History {
         if takes {
             return Some(self.taking(&look));
         }
-        Some(self.natural(&look))
+        Some(match self.natural(&look) {
+            Call::Step { .. } if self.rng.chance(self.turns, 1000) => self.turn(last),
+            call => call,
+        })
+    }
+
+    /// A turn by the marker that the last one left, or by another where there is none yet and now
+    /// and then.
+    fn turn(&mut self, last: u32) -> Call {
+        let goes_on = (1..=self.n).contains(&last) && !self.rng.chance(1, 50);
+        Call::Turn {
+            last: if goes_on { last } else { self.some_module() },
+        }
     }
 
     fn some_module(&mut self) -> u32 {
@@ -227,7 +244,7 @@ impl History {
     fn odd_call(&mut self, look: &Look) -> Call {
         let module = self.some_module();
         let wrong = wrong_module(&mut self.rng, self.n);
-        match self.rng.below(16) {
+        match self.rng.below(18) {
             0 => Call::Step { p: wrong },
             1 => Call::BeginRelease { p: wrong },
             2 => Call::BeginAcquisition {
@@ -257,6 +274,8 @@ impl History {
                 n: self.rng.within(1, 64) as u32,
             },
             15 if self.rng.chance(1, 8) => Call::SetUp { n: 64 },
+            16 => Call::Turn { last: wrong },
+            17 => Call::Turn { last: module },
             _ => Call::Step { p: module },
         }
     }

@@ -11,11 +11,11 @@
 //!   length, [noise](Kind::Noise) and images with [one bit turned](Kind::Flipped).
 //!
 //! [`Coverage`] keeps count of what the cases met: every outcome of every stage, every refusal of
-//! every call, every soundness rule, every damage and every odd class. All classes are listed
-//! from the start, so that one never hit can be reported.
+//! every call, turns of every row and every size of table, every soundness rule, every damage and
+//! every odd class. All classes are listed from the start, so that one never hit can be reported.
 //!
-//! Everything is determined by the seed and, in histories, by the image that the calls so far
-//! have left; nothing depends on time, addresses or threads.
+//! Everything is determined by the seed and, in histories, by the image and the turn marker that
+//! the calls so far have left; nothing depends on time, addresses or threads.
 
 mod call;
 mod coverage;

@@ -37,10 +37,11 @@ enum Calls {
 }
 
 impl Case {
-    /// The next call, given the image that the calls so far have left; none at the end.
-    pub fn next_call(&mut self, image: &[u8]) -> Option<Call> {
+    /// The next call, given the image and the turn marker that the calls so far have left; none at
+    /// the end. Before the first turn the marker is no matter.
+    pub fn next_call(&mut self, image: &[u8], last: u32) -> Option<Call> {
         match &mut self.calls {
-            Calls::History(history) => history.next_call(image),
+            Calls::History(history) => history.next_call(image, last),
             Calls::Listed(calls) => calls.next(),
         }
     }
@@ -172,6 +173,8 @@ impl Stream {
                         priority: rng.within(1, 254) as u32,
                     },
                     13 => Call::BeginRelease { p: focus },
+                    // More often in large tables, which are few, so that every n is met.
+                    _ if rng.chance(if n < 10 { 1 } else { 3 }, 4) => turn_near(rng, n, focus),
                     _ => Call::Step { p: focus },
                 }
             } else {
@@ -180,7 +183,7 @@ impl Stream {
                     1 => rng.within(1, u64::from(n)) as u32,
                     _ => focus,
                 };
-                match rng.below(16) {
+                match rng.below(20) {
                     0..=3 => Call::BeginAcquisition {
                         p: module,
                         priority: match rng.below(3) {
@@ -203,9 +206,13 @@ impl Stream {
                             buffer: log_buffer(rng, length),
                         }
                     }
-                    _ => Call::SetUp {
+                    15 => Call::SetUp {
                         n: set_up_number(rng, image.len()),
                     },
+                    16 => Call::Turn {
+                        last: wrong_module(rng, n),
+                    },
+                    _ => turn_near(rng, n, focus),
                 }
             };
             calls.push(call);
@@ -216,6 +223,18 @@ impl Stream {
             calls: Calls::Listed(calls.into_iter()),
         }
     }
+}
+
+/// A turn whose marker is a module: the one before that in focus around the table, that itself, the
+/// last, or any.
+fn turn_near(rng: &mut Rng, n: u32, focus: u32) -> Call {
+    let last = match rng.below(6) {
+        0..=2 if focus > 1 => focus - 1,
+        0..=3 => n,
+        4 => focus,
+        _ => rng.within(1, u64::from(n)) as u32,
+    };
+    Call::Turn { last }
 }
 
 /// A number of modules for a set-up: any, wrong, the most that fit or one more.

@@ -9,7 +9,7 @@ use reference::{
 };
 
 use crate::drive::{agree, outcome, Outcome};
-use crate::Desk;
+use crate::{Desk, Lent};
 
 /// Two desks differed, or both broke a rule that needs no second opinion.
 #[derive(Clone, Debug)]
@@ -138,14 +138,12 @@ impl fmt::Display for Difference {
             }
         }
         let [left, right] = &self.outcomes;
-        let log_before: &[u8] = match &self.call {
-            Call::TakeLog { buffer } => buffer,
-            _ => &[],
-        };
+        let mut given = Lent::default();
+        given.give(&self.call);
         let mut shown = 0;
         for (what, before, left, right) in [
             ("image", &self.before[..], &left.image, &right.image),
-            ("log buffer", log_before, &left.log, &right.log),
+            ("log buffer", &given.log, &left.lent.log, &right.lent.log),
         ] {
             for (at, byte) in before.iter().enumerate() {
                 let (one, other) = (left[at], right[at]);
@@ -173,6 +171,13 @@ impl fmt::Display for Difference {
         }
         if shown == 0 {
             writeln!(f, "the bytes are the same")?;
+        }
+        if let Call::Turn { last } = self.call {
+            writeln!(
+                f,
+                "marker: {last} before, {} has {}, {} has {}",
+                self.names[0], left.lent.last, self.names[1], right.lent.last
+            )?;
         }
         Ok(())
     }

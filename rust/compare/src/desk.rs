@@ -2,6 +2,8 @@
 
 use std::fmt;
 
+use cases::Call;
+
 /// What a call said, in plain numbers.
 #[derive(Clone, Copy, PartialEq, Eq, Debug)]
 pub struct Said {
@@ -56,10 +58,39 @@ impl fmt::Display for Said {
     }
 }
 
-/// Anything that takes the five calls.
+/// What a call is lent besides the image. A call that is lent neither leaves both alone.
+#[derive(Clone, PartialEq, Eq, Debug, Default)]
+pub struct Lent {
+    /// The buffer for the log.
+    pub log: Vec<u8>,
+    /// The turn marker.
+    pub last: u32,
+}
+
+impl Lent {
+    /// The buffer or the marker becomes what this call has before it.
+    pub fn give(&mut self, call: &Call) {
+        match call {
+            Call::TakeLog { buffer } => self.log.clone_from(buffer),
+            Call::Turn { last } => self.last = *last,
+            _ => {}
+        }
+    }
+
+    /// Whether it is still so.
+    pub fn is_as_given(&self, call: &Call) -> bool {
+        match call {
+            Call::TakeLog { buffer } => self.log == *buffer,
+            Call::Turn { last } => self.last == *last,
+            _ => true,
+        }
+    }
+}
+
+/// Anything that takes the five calls and the turn.
 ///
 /// A desk must take every buffer and every number. It must keep nothing between calls: all state
-/// is in the image.
+/// is in the image and the turn marker.
 pub trait Desk {
     /// A name for accounts.
     fn name(&self) -> String;
@@ -73,6 +104,21 @@ pub trait Desk {
     fn step(&mut self, image: &mut [u8], p: u32) -> Said;
     /// Take the log.
     fn take_log(&mut self, image: &mut [u8], log: &mut [u8]) -> Said;
+    /// Hand out a turn by the marker.
+    fn turn(&mut self, image: &mut [u8], last: &mut u32) -> Said;
+
+    /// Any of them. What it is lent is [given](Lent::give) first, and left in `lent`.
+    fn call(&mut self, image: &mut [u8], lent: &mut Lent, call: &Call) -> Said {
+        lent.give(call);
+        match call {
+            Call::SetUp { n } => self.set_up(image, *n),
+            Call::BeginAcquisition { p, priority } => self.begin_acquisition(image, *p, *priority),
+            Call::BeginRelease { p } => self.begin_release(image, *p),
+            Call::Step { p } => self.step(image, *p),
+            Call::TakeLog { .. } => self.take_log(image, &mut lent.log),
+            Call::Turn { .. } => self.turn(image, &mut lent.last),
+        }
+    }
 }
 
 /// The reference as a desk.
@@ -120,6 +166,10 @@ impl Desk for ReferenceDesk {
 
     fn take_log(&mut self, image: &mut [u8], log: &mut [u8]) -> Said {
         reference::take_log(image, log).into()
+    }
+
+    fn turn(&mut self, image: &mut [u8], last: &mut u32) -> Said {
+        reference::turn(image, last).into()
     }
 }
 
@@ -170,5 +220,9 @@ impl Desk for PlainDesk {
 
     fn take_log(&mut self, image: &mut [u8], log: &mut [u8]) -> Said {
         plain::take_log(image, log).into()
+    }
+
+    fn turn(&mut self, image: &mut [u8], last: &mut u32) -> Said {
+        plain::turn(image, last).into()
     }
 }

@@ -5,7 +5,10 @@ use std::panic::{catch_unwind, AssertUnwindSafe};
 use cases::{small_drafts, Call, Coverage, Kind, Rng, Stream};
 
 use crate::account::{shrink, Difference};
-use crate::{Desk, Said};
+use crate::{Desk, Lent, Said};
+
+/// The answer to a turn where nobody can step.
+const NOBODY: u32 = 9;
 
 /// What one desk made of one call.
 #[derive(Clone, PartialEq, Eq, Debug)]
@@ -14,47 +17,34 @@ pub(crate) struct Outcome {
     pub said: Option<Said>,
     /// The whole buffer afterwards.
     pub image: Vec<u8>,
-    /// The buffer for the log afterwards; empty in the other calls.
-    pub log: Vec<u8>,
+    /// The buffer for the log, or the turn marker, afterwards.
+    pub lent: Lent,
 }
 
-/// Put one call to one desk. `image` is changed in place; the log buffer comes back.
-fn put(desk: &mut dyn Desk, image: &mut [u8], call: &Call) -> (Option<Said>, Vec<u8>) {
-    let mut log = Vec::new();
-    let said = catch_unwind(AssertUnwindSafe(|| match call {
-        Call::SetUp { n } => desk.set_up(image, *n),
-        Call::BeginAcquisition { p, priority } => desk.begin_acquisition(image, *p, *priority),
-        Call::BeginRelease { p } => desk.begin_release(image, *p),
-        Call::Step { p } => desk.step(image, *p),
-        Call::TakeLog { buffer } => {
-            log.clone_from(buffer);
-            desk.take_log(image, &mut log)
-        }
-    }));
-    (said.ok(), log)
+/// Put one call to one desk. What it said; none if it panicked.
+fn put(desk: &mut dyn Desk, image: &mut [u8], lent: &mut Lent, call: &Call) -> Option<Said> {
+    catch_unwind(AssertUnwindSafe(|| desk.call(image, lent, call))).ok()
 }
 
 /// Put one call to one desk on a copy of this image.
 pub(crate) fn outcome(desk: &mut dyn Desk, before: &[u8], call: &Call) -> Outcome {
     let mut image = before.to_vec();
-    let (said, log) = put(desk, &mut image, call);
-    Outcome { said, image, log }
+    let mut lent = Lent::default();
+    let said = put(desk, &mut image, &mut lent, call);
+    Outcome { said, image, lent }
 }
 
-/// Whether two outcomes are the same, and keep the two rules that hold whatever the desks agree on:
-/// a refused call changes no byte anywhere, and owner's bytes never change.
+/// Whether two outcomes are the same, and keep the rules that hold whatever the desks agree on: a
+/// refused call, and a turn where nobody can step, change nothing that they are lent; and owner's
+/// bytes never change.
 pub(crate) fn agree(before: &[u8], call: &Call, left: &Outcome, right: &Outcome) -> bool {
-    left == right && keeps(before, call, left.said, &left.image, &left.log)
+    left == right && keeps(before, call, left.said, &left.image, &left.lent)
 }
 
-fn keeps(before: &[u8], call: &Call, said: Option<Said>, image: &[u8], log: &[u8]) -> bool {
+fn keeps(before: &[u8], call: &Call, said: Option<Said>, image: &[u8], lent: &Lent) -> bool {
     let Some(said) = said else { return false };
-    if said.refused {
-        let log_kept = match call {
-            Call::TakeLog { buffer } => log == buffer,
-            _ => true,
-        };
-        return image == before && log_kept;
+    if said.refused || said.number == NOBODY {
+        return image == before && lent.is_as_given(call);
     }
     // An accepted call leaves a sound image, whose trailer tells where the owner's bytes end.
     let Some((front, trailer)) = image.split_last_chunk::<12>() else {
@@ -90,14 +80,16 @@ pub fn drive(
         }
         left_image.clone_from(&case.image);
         right_image.clone_from(&case.image);
-        while let Some(call) = case.next_call(&left_image) {
+        let mut left_lent = Lent::default();
+        let mut right_lent = Lent::default();
+        while let Some(call) = case.next_call(&left_image, left_lent.last) {
             before.clone_from(&left_image);
-            let (left_said, left_log) = put(left, &mut left_image, &call);
-            let (right_said, right_log) = put(right, &mut right_image, &call);
+            let left_said = put(left, &mut left_image, &mut left_lent, &call);
+            let right_said = put(right, &mut right_image, &mut right_lent, &call);
             let same = left_said == right_said
                 && left_image == right_image
-                && left_log == right_log
-                && keeps(&before, &call, left_said, &left_image, &left_log);
+                && left_lent == right_lent
+                && keeps(&before, &call, left_said, &left_image, &left_lent);
             if !same {
                 return Err(Box::new(shrink(
                     left,
@@ -131,6 +123,7 @@ pub fn sweep(left: &mut dyn Desk, right: &mut dyn Desk, seed: u64) -> Result<u64
             Call::TakeLog {
                 buffer: vec![0xc3; 256],
             },
+            Call::Turn { last: 3 - p },
         ];
         let log = base.len() - 268..base.len() - 12;
         for at in 0..base.len() {

@@ -1,10 +1,10 @@
 //! # Holding two desks against each other
 //!
-//! A [`Desk`] is anything that takes the five calls of document 01. [`drive`] puts the same cases
-//! through two of them and compares, after every call, what they said and **every byte**: the
-//! image, the owner's bytes in front of it, and the buffer for the log. At the first difference it
-//! stops with a [`Difference`], whose text is a short account: the image before as fields, the
-//! call, both replies and the bytes that differ.
+//! A [`Desk`] is anything that takes the five calls of document 01 and R-2's turn. [`drive`] puts
+//! the same cases through two of them and compares, after every call, what they said and **every
+//! byte**: the image, the owner's bytes in front of it, the buffer for the log, and the turn marker.
+//! At the first difference it stops with a [`Difference`], whose text is a short account: the image
+//! before as fields, the call, both replies and the bytes that differ.
 //!
 //! [`run`] makes a whole program of it for any two desks; the program `compare` is that for the
 //! reference and the plain desk. To bring another implementation in, implement [`Desk`] for it and
@@ -26,6 +26,6 @@ mod drive;
 mod run;
 
 pub use account::Difference;
-pub use desk::{Desk, PlainDesk, ReferenceDesk, Said};
+pub use desk::{Desk, Lent, PlainDesk, ReferenceDesk, Said};
 pub use drive::{drive, sweep};
 pub use run::run;

@@ -1,7 +1,7 @@
 //! The plain desk against the reference, and the program `turns` against a naive one.
 
 use cases::{random_script, Call, Rng};
-use compare::{drive, sweep, Desk, PlainDesk, ReferenceDesk};
+use compare::{drive, sweep, Desk, Lent, PlainDesk, ReferenceDesk};
 
 #[test]
 fn the_plain_desk_agrees_with_the_reference_and_every_class_is_met() {
@@ -46,15 +46,7 @@ fn counts_wrap_in_a_history_of_their_own() {
             (&mut PlainDesk, &mut right),
         ];
         for (desk, image) in desks {
-            said.push(match &call {
-                Call::SetUp { n } => desk.set_up(image, *n),
-                Call::BeginAcquisition { p, priority } => {
-                    desk.begin_acquisition(image, *p, *priority)
-                }
-                Call::BeginRelease { p } => desk.begin_release(image, *p),
-                Call::Step { p } => desk.step(image, *p),
-                Call::TakeLog { buffer } => desk.take_log(image, &mut buffer.clone()),
-            });
+            said.push(desk.call(image, &mut Lent::default(), &call));
         }
         assert_eq!(said[0], said[1]);
         assert!(!said[0].refused);

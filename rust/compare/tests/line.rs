@@ -1,6 +1,7 @@
 //! Demand 3 of the minutes, tried on histories: at every moment the records found from the lock
 //! word are the plain line of joins and leaves, at most one module is inside and it is the line's
-//! first, and the log of admissions names the firsts in order, lacking at most the latest.
+//! first, and the log of admissions names the firsts in order, lacking at most the latest. Some steps
+//! are taken by turns, which are steps like any other.
 //!
 //! R-1 adds that a step at stage 6 that looks at a module inside never returns to stage 1, in
 //! histories begun under it. Where desks of before and after R-1 take turns on one table, demand 3
@@ -96,6 +97,8 @@ impl Line {
 struct Met {
     longest: usize,
     releases: u32,
+    /// Steps taken by turns.
+    turns: u32,
     /// Calls refused 1.
     unsound: u32,
     /// Steps at stage 6 that look at a module inside, less urgent by its own priority.
@@ -108,6 +111,8 @@ struct Met {
 #[derive(Clone)]
 struct Table {
     image: Vec<u8>,
+    /// The turn marker.
+    last: u32,
     line: Line,
     /// Own steps of a release that is under way.
     steps: [u8; 65],
@@ -119,6 +124,7 @@ impl Table {
     fn on(image: Vec<u8>) -> Table {
         Table {
             image,
+            last: 0,
             line: Line::default(),
             steps: [0; 65],
             by_the_base: [false; 65],
@@ -165,6 +171,18 @@ impl Table {
                 }
                 reply
             }
+            Call::Turn { last } => {
+                self.last = last;
+                let reply = book.turn(image, &mut self.last);
+                match reply {
+                    Reply::Answered { number, .. } if number != 9 => {
+                        self.stepped(&before, self.last as u16, number, met);
+                        met.turns += 1;
+                    }
+                    _ => assert_eq!(self.last, last),
+                }
+                reply
+            }
         };
         met.unsound += u32::from(reply == Reply::Refused(1));
         self.line.check(&Sheet::read(&self.image));
@@ -207,11 +225,14 @@ fn histories<'a>(seed: u64, count: u32, mut choose: impl FnMut() -> Rulebook<'a>
     for _ in 0..count {
         let (mut history, image) = History::new(&mut rng);
         let mut table = Table::on(image);
-        while let Some(call) = history.next_call(&table.image) {
+        while let Some(call) = history.next_call(&table.image, table.last) {
             table.call(choose(), call, &mut met);
         }
     }
-    assert!(met.longest >= 8 && met.releases > 1000, "{met:?}");
+    assert!(
+        met.longest >= 8 && met.releases > 1000 && met.turns > 1000,
+        "{met:?}"
+    );
     met
 }
 

@@ -1,6 +1,7 @@
 //! Proof that the comparison can fail: desks with one deliberate slip each, every one of which is
 //! caught within [`LIMIT`] calls, from each of several seeds.
 
+use cases::Call;
 use compare::{drive, Desk, ReferenceDesk, Said};
 use reference::{
     Act, Place, Row, Rule, Rulebook, Value, When, Whose, LAST_STAGE, RULES, STAGE_RULE, STAGE_TABLE,
@@ -48,7 +49,12 @@ impl Desk for Book {
     fn take_log(&mut self, image: &mut [u8], log: &mut [u8]) -> Said {
         self.rulebook().take_log(image, log).into()
     }
+    fn turn(&mut self, image: &mut [u8], last: &mut u32) -> Said {
+        self.rulebook().turn(image, last).into()
+    }
 }
+
+type Turn = fn(&mut [u8], &mut u32) -> Said;
 
 /// The reference with some calls replaced.
 #[derive(Clone, Copy)]
@@ -59,6 +65,7 @@ struct Slip {
     begin_release: fn(&mut [u8], u32) -> Said,
     step: fn(&mut [u8], u32) -> Said,
     take_log: fn(&mut [u8], &mut [u8]) -> Said,
+    turn: Turn,
 }
 
 const NONE: Slip = Slip {
@@ -68,6 +75,7 @@ const NONE: Slip = Slip {
     begin_release: |image, p| reference::begin_release(image, p).into(),
     step: |image, p| reference::step(image, p).into(),
     take_log: |image, log| reference::take_log(image, log).into(),
+    turn: |image, last| reference::turn(image, last).into(),
 };
 
 impl Desk for Slip {
@@ -88,6 +96,9 @@ impl Desk for Slip {
     }
     fn take_log(&mut self, image: &mut [u8], log: &mut [u8]) -> Said {
         (self.take_log)(image, log)
+    }
+    fn turn(&mut self, image: &mut [u8], last: &mut u32) -> Said {
+        (self.turn)(image, last)
     }
 }
 
@@ -1300,6 +1311,336 @@ fn byte_mutants() -> Vec<Slip> {
 }
 
 // ---------------------------------------------------------------------------------------------
+// Slips in the turn.
+
+/// Every module after the marker around the table, itself last.
+fn around(n: u32, last: u32) -> Vec<u32> {
+    (last + 1..=n).chain(1..=last).collect()
+}
+
+/// Of a sound image n, whether the marker is 1 to n, and whether the log holds 256.
+fn look(image: &[u8], last: u32) -> Option<(u32, bool, bool)> {
+    reference::is_sound(image).then(|| {
+        let n = u32::from(image[image.len() - 9]);
+        let full = count_at(image, image.len() - 8) == 256;
+        (n, (1..=n).contains(&last), full)
+    })
+}
+
+/// A turn of the first in this order for which `able` holds, which is given where its record lies and
+/// its stage. Module 0, if it is looked at, counts as able.
+fn turn_of(
+    image: &mut [u8],
+    last: &mut u32,
+    order: impl Fn(u32, u32) -> Vec<u32>,
+    able: impl Fn(&[u8], usize, u8) -> bool,
+) -> Said {
+    let Some((n, true, _)) = look(image, *last) else {
+        return (NONE.turn)(image, last);
+    };
+    let mut order = order(n, *last).into_iter();
+    let next = order.find(|p| find(image, *p).is_none_or(|(at, stage)| able(image, at, stage)));
+    let Some(next) = next else {
+        return Said::answered(9);
+    };
+    let said = (NONE.step)(image, next);
+    if !said.refused {
+        *last = next;
+    }
+    said
+}
+
+fn in_order(image: &mut [u8], last: &mut u32, order: fn(u32, u32) -> Vec<u32>) -> Said {
+    turn_of(image, last, order, |_, _, stage| ![0, 13].contains(&stage))
+}
+
+fn passing(image: &mut [u8], last: &mut u32, stages: &[u8]) -> Said {
+    turn_of(image, last, around, |_, _, stage| !stages.contains(&stage))
+}
+
+/// A turn after which the marker, if it was 1 to n, is this: given what the turn said, n, and the
+/// marker before and after.
+fn marked(image: &mut [u8], last: &mut u32, mark: impl Fn(Said, u32, u32, u32) -> u32) -> Said {
+    let (looked, before) = (look(image, *last), *last);
+    let said = (NONE.turn)(image, last);
+    if let Some((n, true, _)) = looked {
+        *last = mark(said, n, before, *last);
+    }
+    said
+}
+
+/// A turn with this taken for the marker, if the image is sound.
+fn taken_for(image: &mut [u8], last: &mut u32, taken: impl Fn(u32, u32) -> u32) -> Said {
+    let Some((n, _, _)) = look(image, *last) else {
+        return (NONE.turn)(image, last);
+    };
+    let mut other = taken(n, *last);
+    let said = (NONE.turn)(image, &mut other);
+    if !said.refused && said.number != 9 {
+        *last = other;
+    }
+    said
+}
+
+fn turn_mutants() -> Vec<Slip> {
+    const NOBODY: Said = Said {
+        refused: false,
+        number: 9,
+        module: 0,
+        length: 0,
+    };
+    let turns: &[(&'static str, Turn)] = &[
+        // In which order.
+        ("starts at the marker itself", |image, last| {
+            in_order(image, last, |n, last| (last..=n).chain(1..last).collect())
+        }),
+        ("never comes to the marker's own module", |image, last| {
+            in_order(image, last, |n, last| {
+                (last + 1..=n).chain(1..last).collect()
+            })
+        }),
+        ("does not go around", |image, last| {
+            in_order(image, last, |n, last| (last + 1..=n).collect())
+        }),
+        ("goes around to 0", |image, last| {
+            in_order(image, last, |n, last| {
+                (last + 1..=n).chain(0..=last).collect()
+            })
+        }),
+        ("goes around to 2", |image, last| {
+            in_order(image, last, |n, last| {
+                (last + 1..=n).chain(2..=last).collect()
+            })
+        }),
+        ("leaves out the last of the table", |image, last| {
+            in_order(image, last, |n, last| {
+                (last + 1..n).chain(1..=last).collect()
+            })
+        }),
+        ("always starts at 1", |image, last| {
+            in_order(image, last, |n, _| (1..=n).collect())
+        }),
+        ("goes backwards", |image, last| {
+            in_order(image, last, |n, last| {
+                let mut order = around(n, last);
+                order.pop();
+                order.reverse();
+                order.push(last);
+                order
+            })
+        }),
+        // Who can step.
+        ("serves a module at stage 0", |image, last| {
+            passing(image, last, &[13])
+        }),
+        ("serves a module at stage 13", |image, last| {
+            passing(image, last, &[0])
+        }),
+        ("passes over stage 12", |image, last| {
+            passing(image, last, &[0, 12, 13])
+        }),
+        ("passes over whoever waits", |image, last| {
+            turn_of(image, last, around, |image, at, stage| match stage {
+                0 | 13 => false,
+                12 => image[at + 13] == 0,
+                _ => true,
+            })
+        }),
+        (
+            "passes over stage 14, which is inside too",
+            |image, last| passing(image, last, &[0, 13, 14]),
+        ),
+        ("passes over stage 19", |image, last| {
+            passing(image, last, &[0, 13, 19])
+        }),
+        ("passes over stage 1", |image, last| {
+            passing(image, last, &[0, 1, 13])
+        }),
+        ("passes over whom a full log refuses", |image, last| {
+            turn_of(image, last, around, |image, at, stage| {
+                let full = count_at(image, image.len() - 8) == 256;
+                match stage {
+                    0 | 13 => false,
+                    3 => !full,
+                    12 => !full || image[at + 13] == 1,
+                    _ => true,
+                }
+            })
+        }),
+        // What becomes of the marker.
+        (
+            "the marker moves on where it is refused 5",
+            |image, last| {
+                marked(image, last, |said, n, before, after| match said.refusal() {
+                    Some(5) => before % n + 1,
+                    _ => after,
+                })
+            },
+        ),
+        (
+            "the marker moves on where nobody can step",
+            |image, last| {
+                marked(image, last, |said, n, before, after| match said {
+                    NOBODY => before % n + 1,
+                    _ => after,
+                })
+            },
+        ),
+        ("the marker is 0 where nobody can step", |image, last| {
+            marked(image, last, |said, _, _, after| match said {
+                NOBODY => 0,
+                _ => after,
+            })
+        }),
+        ("the marker stays", |image, last| {
+            marked(image, last, |_, _, before, _| before)
+        }),
+        ("the marker stays where the module waits", |image, last| {
+            marked(image, last, |said, _, before, after| match said.number {
+                1 => before,
+                _ => after,
+            })
+        }),
+        (
+            "the marker goes to the next, served or not",
+            |image, last| {
+                marked(image, last, |said, n, before, after| {
+                    if said.refused || said == NOBODY {
+                        after
+                    } else {
+                        before % n + 1
+                    }
+                })
+            },
+        ),
+        ("the marker is the one to be served next", |image, last| {
+            marked(image, last, |said, n, _, after| {
+                if said.refused || said == NOBODY {
+                    after
+                } else {
+                    after % n + 1
+                }
+            })
+        }),
+        (
+            "a wrong marker is put right though refused",
+            |image, last| {
+                let said = (NONE.turn)(image, last);
+                if said.refusal() == Some(10) {
+                    *last = 1;
+                }
+                said
+            },
+        ),
+        (
+            "the marker is cleared where the image is unsound",
+            |image, last| {
+                let said = (NONE.turn)(image, last);
+                if said.refusal() == Some(1) {
+                    *last = 0;
+                }
+                said
+            },
+        ),
+        // Which markers are taken, and the numbers given.
+        ("5 before 10", |image, last| {
+            if let Some((n, false, true)) = look(image, *last) {
+                let said = (NONE.turn)(&mut image.to_vec(), &mut n.clone());
+                if said.refused {
+                    return said;
+                }
+            }
+            (NONE.turn)(image, last)
+        }),
+        ("10 before 1", |image, last| match *last {
+            1..=64 => (NONE.turn)(image, last),
+            _ => Said::refused(10),
+        }),
+        ("9 before 10", |image, last| match look(image, *last) {
+            Some((n, false, _)) if (NONE.turn)(&mut image.to_vec(), &mut n.clone()) == NOBODY => {
+                NOBODY
+            }
+            _ => (NONE.turn)(image, last),
+        }),
+        ("marker 0 is taken for n", |image, last| {
+            taken_for(image, last, |n, last| if last == 0 { n } else { last })
+        }),
+        ("marker n + 1 is taken for n", |image, last| {
+            taken_for(image, last, |n, last| if last == n + 1 { n } else { last })
+        }),
+        ("marker n is refused", |image, last| {
+            match look(image, *last) {
+                Some((n, ..)) if n == *last => Said::refused(10),
+                _ => (NONE.turn)(image, last),
+            }
+        }),
+        ("the marker is cut to a byte", |image, last| {
+            taken_for(image, last, |_, last| last & 0xff)
+        }),
+        (
+            "a wrong marker is refused by 2",
+            |image, last| match (NONE.turn)(image, last) {
+                said if said.refusal() == Some(10) => Said::refused(2),
+                said => said,
+            },
+        ),
+        ("nobody answers 0", |image, last| {
+            match (NONE.turn)(image, last) {
+                NOBODY => Said::answered(0),
+                said => said,
+            }
+        }),
+        ("nobody is refused by 4", |image, last| {
+            match (NONE.turn)(image, last) {
+                NOBODY => Said::refused(4),
+                said => said,
+            }
+        }),
+        ("whoever waits is answered 9", |image, last| {
+            match (NONE.turn)(image, last) {
+                said if said == Said::answered(1) => NOBODY,
+                said => said,
+            }
+        }),
+        ("an admission does not tell the module", |image, last| {
+            Said {
+                module: 0,
+                ..(NONE.turn)(image, last)
+            }
+        }),
+        // The step and the image.
+        ("takes two steps", |image, last| {
+            let said = (NONE.turn)(image, last);
+            if !said.refused && said != NOBODY {
+                (NONE.step)(image, *last);
+            }
+            said
+        }),
+        ("a turn never writes the image", |image, last| {
+            (NONE.turn)(&mut image.to_vec(), last)
+        }),
+        ("in a turn n is read from one byte", |image, last| {
+            blind_to(image, &[2], |image| (NONE.turn)(image, last))
+        }),
+        (
+            "in a turn trailer byte 7 is not looked at",
+            |image, last| blind_to(image, &[7], |image| (NONE.turn)(image, last)),
+        ),
+        ("logs the module before the one served", |image, last| {
+            let before = *last;
+            let said = (NONE.turn)(image, last);
+            if !said.refused && said.number == 2 {
+                let at = image.len() - 268 + usize::from(count_at(image, image.len() - 8)) - 1;
+                image[at] = before as u8;
+            }
+            said
+        }),
+    ];
+    let slip = |&(name, turn): &(&'static str, Turn)| Slip { name, turn, ..NONE };
+    turns.iter().map(slip).collect()
+}
+
+// ---------------------------------------------------------------------------------------------
 
 /// Keep the panics of mutants, which are caught and reported as differences, off the output.
 fn quiet_about_mutants() {
@@ -1321,7 +1662,7 @@ fn every_mutant_is_caught() {
     let mut mutants = table_mutants();
     mutants.extend(raising_mutants());
     mutants.extend(rule_mutants());
-    for slip in byte_mutants() {
+    for slip in byte_mutants().into_iter().chain(turn_mutants()) {
         mutants.push(Box::new(slip));
     }
     let mut missed = Vec::new();
@@ -1348,8 +1689,17 @@ fn every_mutant_is_caught() {
 
 #[test]
 fn without_a_slip_nothing_is_caught() {
-    let mut none = NONE;
-    drive(&mut ReferenceDesk, &mut none, 4, LIMIT).unwrap();
+    // The turns made by way of the functions for mutants too.
+    let turns: [Turn; 4] = [
+        NONE.turn,
+        |image, last| passing(image, last, &[0, 13]),
+        |image, last| marked(image, last, |_, _, _, after| after),
+        |image, last| taken_for(image, last, |_, last| last),
+    ];
+    for turn in turns {
+        let mut none = Slip { turn, ..NONE };
+        drive(&mut ReferenceDesk, &mut none, 4, LIMIT).unwrap();
+    }
     let mut book = Book {
         name: "the papers".into(),
         rules: RULES.to_vec(),
@@ -1377,4 +1727,26 @@ fn an_account_is_short_and_names_what_differs() {
         assert!(account.contains(part), "{part:?} is not in\n{account}");
     }
     assert!(account.lines().count() <= 10, "{account}");
+}
+
+#[test]
+fn an_account_of_a_turn_names_the_marker() {
+    let mut slip = Slip {
+        turn: |image, last| marked(image, last, |_, n, _, _| n + 7),
+        ..NONE
+    };
+    let difference = drive(&mut ReferenceDesk, &mut slip, 1, LIMIT).unwrap_err();
+    let account = difference.to_string();
+    println!("{account}");
+    let Call::Turn { last } = difference.call else {
+        panic!("{account}");
+    };
+    let n = u32::from(difference.before[difference.before.len() - 9]);
+    for part in [
+        format!(": turn, marker {last}\n"),
+        format!("marker: {last} before, reference has "),
+        format!(", no slip has {}\n", n + 7),
+    ] {
+        assert!(account.contains(&part), "{part:?} is not in\n{account}");
+    }
 }

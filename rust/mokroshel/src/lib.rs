@@ -12,7 +12,8 @@
 //! [steps](Image::step) until one answers [`Answer::Admitted`]. It gives the lock back by
 //! [beginning a release](Image::begin_release) and steps until one answers
 //! [`Answer::ReleaseFinished`]. Each step makes one access to shared data, so the caller decides how
-//! the modules' steps fall between each other's.
+//! the modules' steps fall between each other's. Or it lets the desk [hand out
+//! turns](Image::turn), by which nobody is left out.
 //!
 //! ```
 //! use mokroshel::{table_length, Answer, Image, Refusal};
@@ -61,6 +62,14 @@ pub use reply::{Answer, Refusal};
 /// ```
 pub const fn table_length(n: usize) -> usize {
     16 * n + 268
+}
+
+/// The turn marker: the module that was served last. A first marker of n makes module 1 the first.
+#[derive(Clone, Copy, PartialEq, Eq, Debug)]
+#[repr(C)]
+pub struct Marker {
+    /// The module's number.
+    pub last: u32,
 }
 
 /// An image in a buffer, borrowed or owned.
@@ -167,6 +176,39 @@ impl<B: AsRef<[u8]> + AsMut<[u8]>> Image<B> {
     /// ```
     pub fn step(&mut self, p: u32) -> Result<Answer, Refusal> {
         reply::unpack(exports::step(self.buffer.as_mut(), p))
+    }
+
+    /// Hands out a turn: takes one step for the first module after the marker around the table, the
+    /// marker's own module last, that is neither idle nor inside. The marker then tells which it was.
+    /// A module that is neither idle nor inside over n accepted turns is stepped in one of them,
+    /// whatever calls for other modules fall between.
+    ///
+    /// If nobody can step, the answer is [`Answer::Nobody`]. Then, and where the turn is refused,
+    /// image and marker stay as they were. A turn is refused if the marker is not 1 to n, and after
+    /// that as the step would be: while the log is full every turn may meet the same module, so
+    /// [take it](Image::take_log).
+    ///
+    /// ```
+    /// use mokroshel::{Answer, Image, Marker, Refusal};
+    ///
+    /// let mut image = Image::over([0; 300]);
+    /// image.set_up(2)?;
+    /// let mut marker = Marker { last: 2 };
+    /// assert_eq!(image.turn(&mut marker), Ok(Answer::Nobody));
+    /// image.begin_acquisition(1, 10)?;
+    /// image.begin_acquisition(2, 10)?;
+    /// // Both in turn, and 1 is the first to have the lock.
+    /// let mut served = Vec::new();
+    /// while image.turn(&mut marker)? != Answer::Admitted(1) {
+    ///     served.push(marker.last);
+    /// }
+    /// assert_eq!(served, [1, 2, 1, 2, 1, 2]);
+    /// assert_eq!(marker, Marker { last: 1 });
+    /// assert_eq!(image.turn(&mut Marker { last: 3 }), Err(Refusal::WrongMarker));
+    /// # Ok::<(), Refusal>(())
+    /// ```
+    pub fn turn(&mut self, marker: &mut Marker) -> Result<Answer, Refusal> {
+        reply::unpack(exports::turn(self.buffer.as_mut(), marker))
     }
 
     /// Takes the log: the held admissions go to the first bytes of `log`, oldest first, and the held

@@ -19,6 +19,8 @@ pub enum Answer {
     Left,
     /// 5, the release is finished.
     ReleaseFinished,
+    /// 9, nobody can step: every module is idle or inside.
+    Nobody,
 }
 
 impl Answer {
@@ -31,6 +33,7 @@ impl Answer {
             Answer::Joined => 3,
             Answer::Left => 4,
             Answer::ReleaseFinished => 5,
+            Answer::Nobody => 9,
         }
     }
 }
@@ -54,6 +57,8 @@ pub enum Refusal {
     WrongNumberOfModules = 7,
     /// 8, the buffer for a table is shorter than 16n + 268 bytes.
     ShortBuffer = 8,
+    /// 10, the turn marker is not 1 to n.
+    WrongMarker = 10,
 }
 
 impl Refusal {
@@ -74,6 +79,7 @@ impl fmt::Display for Refusal {
             Refusal::ShortLogBuffer => "the buffer for the log is shorter than the log",
             Refusal::WrongNumberOfModules => "the number of modules is not 1 to 64",
             Refusal::ShortBuffer => "the buffer is shorter than the table",
+            Refusal::WrongMarker => "the turn marker is not 1 to n",
         };
         write!(f, "refused {}: {why}", self.number())
     }
@@ -94,6 +100,7 @@ pub(crate) fn unpack(word: u32) -> Result<Answer, Refusal> {
         (3, 0, 0) => Ok(Answer::Joined),
         (4, 0, 0) => Ok(Answer::Left),
         (5, 0, 0) => Ok(Answer::ReleaseFinished),
+        (9, 0, 0) => Ok(Answer::Nobody),
         (0, 0, 1..=256) => Ok(Answer::LogTaken(length as usize)),
         (1, 0, 0x8000) => Err(Refusal::Unsound),
         (2, 0, 0x8000) => Err(Refusal::NoSuchModule),
@@ -103,6 +110,7 @@ pub(crate) fn unpack(word: u32) -> Result<Answer, Refusal> {
         (6, 0, 0x8000) => Err(Refusal::ShortLogBuffer),
         (7, 0, 0x8000) => Err(Refusal::WrongNumberOfModules),
         (8, 0, 0x8000) => Err(Refusal::ShortBuffer),
+        (10, 0, 0x8000) => Err(Refusal::WrongMarker),
         _ => unreachable!("no call gives the word {word:#x}"),
     }
 }

@@ -1,15 +1,16 @@
 //! The archive as a desk.
 
 use compare::{Desk, Said};
-use mokroshel::{Answer, Image, Refusal};
+use mokroshel::{Answer, Image, Marker, Refusal};
 
 use crate::Fence;
 
-/// The archive as a desk. Every buffer that it is lent is [fenced](Fence).
+/// The archive as a desk. Every buffer and marker that it is lent is [fenced](Fence).
 #[derive(Default)]
 pub struct ArchiveDesk {
     image: Fence,
     log: Fence,
+    marker: Fence,
 }
 
 fn said(reply: Result<Answer, Refusal>) -> Said {
@@ -59,9 +60,20 @@ impl Desk for ArchiveDesk {
         let ArchiveDesk {
             image: fence,
             log: log_fence,
+            ..
         } = self;
         said(fence.lend(image, |image| {
             log_fence.lend(log, |log| Image::over(image).take_log(log))
         }))
+    }
+
+    fn turn(&mut self, image: &mut [u8], last: &mut u32) -> Said {
+        let mut marker = Marker { last: *last };
+        let said = said(self.image.lend(image, |image| {
+            self.marker
+                .lend_marker(&mut marker, |marker| Image::over(image).turn(marker))
+        }));
+        *last = marker.last;
+        said
     }
 }

@@ -3,6 +3,8 @@
 
 use std::ffi::{c_int, c_long, c_void};
 
+use mokroshel::Marker;
+
 extern "C" {
     fn mmap(
         at: *mut c_void,
@@ -83,6 +85,24 @@ impl Fence {
         let result = call(lent);
         bytes.copy_from_slice(lent);
         assert_eq!(guard, [GUARD_BYTE; GUARD], "guard bytes were changed");
+        result
+    }
+
+    /// The same for a turn marker.
+    pub fn lend_marker<T>(
+        &mut self,
+        marker: &mut Marker,
+        call: impl FnOnce(&mut Marker) -> T,
+    ) -> T {
+        let mut bytes = marker.last.to_ne_bytes();
+        let result = self.lend(&mut bytes, |bytes| {
+            // SAFETY: any four bytes are a number, and a marker is one number.
+            match unsafe { bytes.align_to_mut::<Marker>() } {
+                ([], [marker], []) => call(marker),
+                _ => panic!("four bytes that are not lent in a number's place"),
+            }
+        });
+        marker.last = u32::from_ne_bytes(bytes);
         result
     }
 }

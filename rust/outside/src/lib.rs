@@ -1,7 +1,7 @@
 //! # The proved calls, seen from outside
 //!
 //! [`ArchiveDesk`] puts the archive behind `compare`'s trait, through the interface of `mokroshel`,
-//! and lends it only buffers whose both ends are guarded ([`Fence`]). The program `outside` holds it
+//! and lends it only buffers and markers whose both ends are guarded ([`Fence`]). The program `outside` holds it
 //! against the reference; the program `measure` says what the calls cost: [`stack`] and time.
 
 mod desk;

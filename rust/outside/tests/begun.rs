@@ -24,7 +24,7 @@ fn stages(table: &mut Table, p: u32, count: usize) -> Vec<u8> {
 
 /// Module 1, priority 10, has just taken the free lock, as a desk of before R-1 leaves it: at stage 3, not raised.
 fn before_the_rule(desk: &mut dyn Desk) -> Table<'_> {
-    let mut table = Table::fresh(desk);
+    let mut table = Table::fresh(desk, 3);
     table.begin_acquisition(1, 10);
     assert_eq!([1, 1].map(|p| table.step(p)), [0, 3]);
     assert_eq!(table.stage(1), 19);
@@ -83,7 +83,7 @@ fn with_another(desk: &mut dyn Desk) {
 
 /// B7 as R-1 has it.
 fn under_the_rule(desk: &mut dyn Desk) {
-    let mut table = Table::fresh(desk);
+    let mut table = Table::fresh(desk, 3);
     table.begin_acquisition(1, 10);
     assert_eq!([1; FREE as usize].map(|p| table.step(p)), [0, 3, 0, 2]);
     assert_eq!(table.record(1)[8..13], [0, 0, 0, 2, 255]);

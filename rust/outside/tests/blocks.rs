@@ -1,24 +1,24 @@
 //! `plain_block` says and writes what `plain` does.
 
 use cases::{Call, Stream};
+use compare::Lent;
 
 macro_rules! said {
-    ($desk:ident, $image:expr, $call:expr, $log:expr) => {
+    ($desk:ident, $given:expr, $call:expr) => {{
+        let (image, lent): &mut (Vec<u8>, Lent) = $given;
         match $call {
-            Call::SetUp { n } => $desk::set_up($image, *n).map(|answer| format!("{answer:?}")),
+            Call::SetUp { n } => $desk::set_up(image, *n),
             Call::BeginAcquisition { p, priority } => {
-                $desk::begin_acquisition($image, *p, *priority).map(|answer| format!("{answer:?}"))
+                $desk::begin_acquisition(image, *p, *priority)
             }
-            Call::BeginRelease { p } => {
-                $desk::begin_release($image, *p).map(|answer| format!("{answer:?}"))
-            }
-            Call::Step { p } => $desk::step($image, *p).map(|answer| format!("{answer:?}")),
-            Call::TakeLog { .. } => {
-                $desk::take_log($image, $log).map(|answer| format!("{answer:?}"))
-            }
+            Call::BeginRelease { p } => $desk::begin_release(image, *p),
+            Call::Step { p } => $desk::step(image, *p),
+            Call::TakeLog { .. } => $desk::take_log(image, &mut lent.log),
+            Call::Turn { .. } => $desk::turn(image, &mut lent.last),
         }
+        .map(|answer| format!("{answer:?}"))
         .map_err(|refusal| refusal.number())
-    };
+    }};
 }
 
 #[test]
@@ -27,18 +27,14 @@ fn no_difference() {
     let (mut calls, mut refused_unsound) = (0, 0);
     while calls < 300_000 {
         let mut case = stream.next_case();
-        let mut image = case.image.clone();
-        while let Some(call) = case.next_call(&image) {
-            let buffer = match &call {
-                Call::TakeLog { buffer } => buffer.clone(),
-                _ => Vec::new(),
-            };
-            let (mut one, mut other) = ((image.clone(), buffer.clone()), (image.clone(), buffer));
-            let said = said!(plain, &mut one.0, &call, &mut one.1);
-            assert_eq!(said, said!(plain_block, &mut other.0, &call, &mut other.1));
+        let mut one = (case.image.clone(), Lent::default());
+        while let Some(call) = case.next_call(&one.0, one.1.last) {
+            one.1.give(&call);
+            let mut other = one.clone();
+            let said = said!(plain, &mut one, &call);
+            assert_eq!(said, said!(plain_block, &mut other, &call));
             assert_eq!(one, other);
             refused_unsound += usize::from(said == Err(1));
-            image = one.0;
             calls += 1;
         }
     }

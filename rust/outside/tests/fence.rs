@@ -5,6 +5,7 @@ use std::os::unix::process::ExitStatusExt;
 use std::panic::{catch_unwind, AssertUnwindSafe};
 use std::process::Command;
 
+use mokroshel::Marker;
 use outside::Fence;
 
 /// Lends five bytes until the buffer ends (or starts) at the untouchable page, and then calls.
@@ -27,6 +28,20 @@ fn bytes_come_and_go() {
             seen
         });
         assert_eq!((seen, bytes), (vec![1, 2, turn], [1, 9, turn]));
+    }
+}
+
+#[test]
+fn a_marker_comes_and_goes() {
+    let mut fence = Fence::new();
+    for last in 0x0102_0304..0x0102_030a {
+        let mut marker = Marker { last };
+        let seen = fence.lend_marker(&mut marker, |lent| {
+            let seen = lent.last;
+            lent.last = !seen;
+            seen
+        });
+        assert_eq!((seen, marker.last), (last, !last));
     }
 }
 

@@ -42,7 +42,7 @@ impl History<'_> {
 /// Up to just before the swap, with so many rounds of module 1 in between.
 fn before_the_swap(desk: &mut dyn Desk, rounds: u32) -> History<'_> {
     let mut history = History {
-        table: Table::fresh(desk),
+        table: Table::fresh(desk, 3),
         changes: 0,
     };
     assert_eq!(history.acquire(1, 10, FREE), 2);

@@ -3,11 +3,11 @@
 //! What one would write for speed and clarity: the image is checked in place with early returns,
 //! then one match on the stage edits bytes in place. The package `plain_block` is the same source
 //! with one trick: it compares the log's rest with zeros as a block. It makes the same checks as every other
-//! implementation of document 01, with R-1 of document 02, and is there to be measured against; its
+//! implementation of document 01, with R-1 and R-2 of document 02, and is there to be measured against; its
 //! correctness rests on being driven over the same cases as the reference.
 //!
 //! The five calls are [`set_up`], [`begin_acquisition`], [`begin_release`], [`step`] and
-//! [`take_log`]; [`turns`] is the program of the same name.
+//! [`take_log`]; [`turn`] steps whoever is next; [`turns`] is the program of the same name.
 //!
 //! ```
 //! use plain::{Answer, Refusal};
@@ -74,6 +74,8 @@ pub enum Answer {
     Left,
     /// 5, release finished.
     ReleaseFinished,
+    /// 9, nobody can step.
+    Nobody,
 }
 
 impl Answer {
@@ -86,6 +88,7 @@ impl Answer {
             Answer::Joined => 3,
             Answer::Left => 4,
             Answer::ReleaseFinished => 5,
+            Answer::Nobody => 9,
         }
     }
 }
@@ -110,6 +113,8 @@ pub enum Refusal {
     Modules = 7,
     /// Set-up buffer shorter than 16n + 268.
     BufferShort = 8,
+    /// Turn marker not 1 to n.
+    Marker = 10,
 }
 
 impl Refusal {
@@ -454,6 +459,22 @@ pub fn step(image: &mut [u8], p: u32) -> Reply {
     let mut desk = Desk::open(image).ok_or(Refusal::Unsound)?;
     let module = desk.module(p)?;
     desk.step(module)
+}
+
+/// Hand out a turn to the first module after `last` around the table, itself last, that can step.
+pub fn turn(image: &mut [u8], last: &mut u32) -> Reply {
+    let mut desk = Desk::open(image).ok_or(Refusal::Unsound)?;
+    let served = desk.module(*last).map_err(|_| Refusal::Marker)?;
+    let n = desk.trailer[N + 1];
+    let next = (served + 1..=n)
+        .chain(1..=served)
+        .find(|&module| !matches!(desk.record(module)[STAGE], 0 | 13));
+    let Some(next) = next else {
+        return Ok(Answer::Nobody);
+    };
+    let answer = desk.step(next)?;
+    *last = u32::from(next);
+    Ok(answer)
 }
 
 /// Take the log into the first bytes of `log`, and make the held log empty and zero.

@@ -1,4 +1,4 @@
-//! The five calls.
+//! The five calls and the turn.
 
 use crate::rules::{Rule, RULES};
 use crate::sheet::{table_length, Field, Sheet, LOG_BYTES, MOST_MODULES};
@@ -31,6 +31,14 @@ fn lowest(refusals: &[(u8, bool)]) -> Option<Reply> {
         .map(|(number, _)| *number)
         .min()
         .map(Reply::Refused)
+}
+
+/// The first in the list that applies, where a request has an order of its own.
+fn earliest(refusals: &[(u8, bool)]) -> Option<Reply> {
+    refusals
+        .iter()
+        .find(|(_, applies)| *applies)
+        .map(|(number, _)| Reply::Refused(*number))
 }
 
 /// The image as a call finds it: its sheet, and whether it is sound.
@@ -151,6 +159,35 @@ impl Rulebook<'_> {
         }
     }
 
+    /// Hand out a turn. Of the modules that are not at stage 0 or 13 the one takes a step that comes
+    /// soonest after the marker around the table, where the marker's own module comes last; the
+    /// marker then holds it. If nobody can step, the answer is 9 and the marker stays. A refused
+    /// turn changes neither.
+    pub fn turn(&self, image: &mut [u8], marker: &mut u32) -> Reply {
+        let found = self.find(image);
+        let refusals = [found.unsound(), (10, found.module(*marker).is_none())];
+        if let Some(refused) = earliest(&refusals) {
+            return refused;
+        }
+        let (n, last) = (found.sheet.n(), *marker);
+        let places_after = |p: &u32| (p + n - last - 1) % n;
+        let next = (1..=n)
+            .filter(|p| {
+                found
+                    .stage(*p)
+                    .is_some_and(|stage| ![0, 13].contains(&stage))
+            })
+            .min_by_key(places_after);
+        let Some(next) = next else {
+            return Reply::answered(9);
+        };
+        let reply = self.step(image, next);
+        if let Reply::Answered { .. } = reply {
+            *marker = next;
+        }
+        reply
+    }
+
     /// Take the log: it is written into the first bytes of the log buffer, whose others stay, and
     /// the held log becomes empty and zero.
     pub fn take_log(&self, image: &mut [u8], log: &mut [u8]) -> Reply {
@@ -190,6 +227,12 @@ pub fn begin_release(image: &mut [u8], p: u32) -> Reply {
 /// 5, the step would admit and the log holds 256.
 pub fn step(image: &mut [u8], p: u32) -> Reply {
     RULEBOOK.step(image, p)
+}
+
+/// Hand out a turn. Refusals: 1, image unsound; then 10, marker not 1 to n; then 5, the step would
+/// admit and the log holds 256.
+pub fn turn(image: &mut [u8], marker: &mut u32) -> Reply {
+    RULEBOOK.turn(image, marker)
 }
 
 /// Take the log. Refusals: 1, image unsound; 6, buffer for the log shorter than the log length.

@@ -1,7 +1,7 @@
 //! # The desk of the deck lock, second implementation
 //!
 //! This package was written from document 01 ("The build and its exact rules") alone, and then
-//! from R-1 of document 02 ("Requests after the base"), to be held against the first
+//! from of document 02 ("Requests after the base"), to be held against the first
 //! implementation. It favours likeness to the papers over speed, and it is deliberately of another
 //! shape than a program that matches on the stage and edits bytes:
 //!
@@ -16,7 +16,7 @@
 //! 4. [`Sheet::write`] puts the whole table back into the buffer.
 //!
 //! The five calls are [`set_up`], [`begin_acquisition`], [`begin_release`], [`step`] and
-//! [`take_log`]. Each takes every buffer of every length and content and every number; it either
+//! [`take_log`]; a [`turn`] is a step of the module whose turn it is. Each takes every buffer of every length and content and every number; it either
 //! refuses by the paper's number and changes no byte, or answers and leaves exactly the bytes
 //! that the paper says.
 //!
@@ -40,7 +40,9 @@ mod rules;
 mod sheet;
 mod stages;
 
-pub use calls::{begin_acquisition, begin_release, set_up, step, take_log, Rulebook, RULEBOOK};
+pub use calls::{
+    begin_acquisition, begin_release, set_up, step, take_log, turn, Rulebook, RULEBOOK,
+};
 pub use link::Link;
 pub use reply::Reply;
 pub use rules::{broken_rules, is_sound, Rule, RULES, STAGE_RULE};

@@ -3,11 +3,12 @@
 /// What a call says: a refusal's number alone, or an answer.
 #[derive(Clone, Copy, PartialEq, Eq, Debug)]
 pub enum Reply {
-    /// Refused by this number (1 to 8); no byte was changed anywhere.
+    /// Refused by this number (1 to 8, or 10); no byte was changed anywhere.
     Refused(u8),
     /// Carried out.
     Answered {
-        /// 0 done, 1 waiting, 2 admitted, 3 joined, 4 left, 5 release finished.
+        /// 0 done, 1 waiting, 2 admitted, 3 joined, 4 left, 5 release finished, 9 nobody can
+        /// step.
         number: u8,
         /// The admitted module, where the number is 2.
         admitted: Option<u8>,

@@ -1,8 +1,9 @@
-//! What the five calls cost, as seen by their caller.
+//! What the five calls and the turn cost, as seen by their caller.
 //!
 //! `measure time` prints for each call, on busy tables of 1, 8 and 64 modules, the time of a call to
 //! the archive through `mokroshel`, and its ratio to the plain desk, to the same with the log's rest
-//! compared as a block, and to one bare pass over the image's bytes (a comparison with a copy). `measure stack` prints the most stack that each call
+//! compared as a block, and to one bare pass over the image's bytes (a comparison with a copy); then
+//! that of a turn to the step that it takes. `measure stack` prints the most stack that each call
 //! took. `measure lines N` prints N lines for `turns`.
 
 use std::hint::black_box;
@@ -10,19 +11,21 @@ use std::process::ExitCode;
 use std::time::Instant;
 
 use cases::{Call, Rng, Stream};
-use mokroshel::{table_length, Image};
+use compare::Lent;
+use mokroshel::{table_length, Image, Marker};
 use outside::stack::depth;
 
 /// How many tables take turns, so that a call does not always find the same.
 const TABLES: usize = 8;
 const REPEATS: usize = 500;
 const ROUNDS: usize = 41;
-const NAMES: [&str; 5] = [
+const NAMES: [&str; 6] = [
     "set up",
     "begin acquisition",
     "begin release",
     "step",
     "take log",
+    "turn",
 ];
 
 fn kind(call: &Call) -> usize {
@@ -32,23 +35,30 @@ fn kind(call: &Call) -> usize {
         Call::BeginRelease { .. } => 2,
         Call::Step { .. } => 3,
         Call::TakeLog { .. } => 4,
+        Call::Turn { .. } => 5,
     }
 }
 
-fn archive(image: &mut [u8], log: &mut [u8], call: &Call) {
+fn archive(image: &mut [u8], lent: &mut Lent, call: &Call) {
     let mut image = Image::over(image);
     let _ = black_box(match call {
         Call::SetUp { n } => image.set_up(*n),
         Call::BeginAcquisition { p, priority } => image.begin_acquisition(*p, *priority),
         Call::BeginRelease { p } => image.begin_release(*p),
         Call::Step { p } => image.step(*p),
-        Call::TakeLog { .. } => image.take_log(log),
+        Call::TakeLog { .. } => image.take_log(&mut lent.log),
+        Call::Turn { last } => {
+            let mut marker = Marker { last: *last };
+            let said = image.turn(&mut marker);
+            lent.last = marker.last;
+            said
+        }
     });
 }
 
 macro_rules! in_rust {
     ($desk:ident) => {
-        fn $desk(image: &mut [u8], log: &mut [u8], call: &Call) {
+        fn $desk(image: &mut [u8], lent: &mut Lent, call: &Call) {
             let _ = black_box(match call {
                 Call::SetUp { n } => $desk::set_up(image, *n),
                 Call::BeginAcquisition { p, priority } => {
@@ -56,7 +66,11 @@ macro_rules! in_rust {
                 }
                 Call::BeginRelease { p } => $desk::begin_release(image, *p),
                 Call::Step { p } => $desk::step(image, *p),
-                Call::TakeLog { .. } => $desk::take_log(image, log),
+                Call::TakeLog { .. } => $desk::take_log(image, &mut lent.log),
+                Call::Turn { last } => {
+                    lent.last = *last;
+                    $desk::turn(image, &mut lent.last)
+                }
             });
         }
     };
@@ -75,7 +89,7 @@ struct Busy {
 impl Busy {
     fn new(n: u32) -> Busy {
         let mut image = vec![0; table_length(n as usize)];
-        plain(&mut image, &mut [], &Call::SetUp { n });
+        plain(&mut image, &mut Lent::default(), &Call::SetUp { n });
         let rng = Rng::new(u64::from(n));
         Busy { rng, n, image }
     }
@@ -92,14 +106,19 @@ impl Busy {
         }
     }
 
-    /// Tables on which a call of this kind is accepted, each with that call.
+    /// Tables on which a call of this kind is accepted, each with that call. A turn takes the very
+    /// step that stands in its place.
     fn before(mut self, wanted: usize) -> Vec<(Vec<u8>, Call)> {
-        let (n, mut found) = (self.n, Vec::new());
+        let (n, mut found, mut lent) = (self.n, Vec::new(), room());
         for turn in 0.. {
             let call = match wanted {
                 0 => Call::SetUp { n },
                 4 => Call::TakeLog { buffer: Vec::new() },
-                _ => self.next_call(),
+                _ => match self.next_call() {
+                    Call::Step { p: 1 } if wanted == 5 => Call::Turn { last: n },
+                    Call::Step { p } if wanted == 5 => Call::Turn { last: p - 1 },
+                    natural => natural,
+                },
             };
             if turn % 10 == 0 && turn > 1000 && kind(&call) == wanted {
                 found.push((self.image.clone(), call));
@@ -108,27 +127,33 @@ impl Busy {
                 }
             }
             let natural = self.next_call();
-            plain(&mut self.image, &mut [], &natural);
+            plain(&mut self.image, &mut lent, &natural);
             if turn % 200 == 199 {
                 let take = Call::TakeLog { buffer: Vec::new() };
-                plain(&mut self.image, &mut [0; 256], &take);
+                plain(&mut self.image, &mut lent, &take);
             }
         }
         found
     }
 }
 
+/// Room for any log.
+fn room() -> Lent {
+    let log = vec![0; 256];
+    Lent { log, last: 0 }
+}
+
 /// Nanoseconds of one call, with the copy that restores its image.
-fn time(before: &[(Vec<u8>, Call)], work: impl Fn(&mut [u8], &mut [u8], &(Vec<u8>, Call))) -> f64 {
+fn time(before: &[(Vec<u8>, Call)], work: impl Fn(&mut [u8], &mut Lent, &(Vec<u8>, Call))) -> f64 {
     let mut images: Vec<_> = before.iter().map(|(image, _)| image.clone()).collect();
-    let mut log = [0; 256];
+    let mut lent = room();
     let start = Instant::now();
     for _ in 0..REPEATS {
         for (image, (restored, _)) in images.iter_mut().zip(before) {
             black_box(&mut *image).copy_from_slice(restored);
         }
         for (image, given) in images.iter_mut().zip(before) {
-            work(image, &mut log, given);
+            work(image, &mut lent, given);
         }
     }
     start.elapsed().as_nanos() as f64 / (REPEATS * before.len()) as f64
@@ -149,8 +174,8 @@ fn times() {
             for _ in 0..ROUNDS {
                 all[0].push(time(&before, |_, _, _| ()));
                 for (times, desk) in all[1..].iter_mut().zip([archive, plain, plain_block]) {
-                    times.push(time(&before, |image, log, (_, call)| {
-                        desk(image, log, call)
+                    times.push(time(&before, |image, lent, (_, call)| {
+                        desk(image, lent, call)
                     }));
                 }
                 all[4].push(time(&before, |image, _, (copy, _)| {
@@ -170,6 +195,39 @@ fn times() {
     }
 }
 
+/// A turn to the archive against the step that it takes: of the module right after the marker, on
+/// busy tables; and all around the table, where none but the marker's own module can step.
+fn turns() {
+    println!("a turn, as a ratio to the step that it takes:");
+    println!("  n     next   around");
+    for n in [1, 8, 64] {
+        let mut alone = Busy::new(n);
+        let begin = Call::BeginAcquisition { p: 1, priority: 9 };
+        plain(&mut alone.image, &mut room(), &begin);
+        let around = vec![(alone.image, Call::Turn { last: 1 }); TABLES];
+        let ratios = [Busy::new(n).before(5), around].map(|turns| {
+            let steps = turns.iter().map(|(image, turn)| {
+                let mut lent = room();
+                plain(&mut image.clone(), &mut lent, turn);
+                (image.clone(), Call::Step { p: lent.last })
+            });
+            let steps: Vec<_> = steps.collect();
+            let mut all: [Vec<f64>; 3] = Default::default();
+            for _ in 0..ROUNDS {
+                all[0].push(time(&steps, |_, _, _| ()));
+                for (times, before) in all[1..].iter_mut().zip([&steps, &turns]) {
+                    times.push(time(before, |image, lent, (_, call)| {
+                        archive(image, lent, call)
+                    }));
+                }
+            }
+            let [restore, step, turn] = all.map(median);
+            (turn - restore) / (step - restore)
+        });
+        println!("{n:>3}{:>9.2}{:>9.2}", ratios[0], ratios[1]);
+    }
+}
+
 /// The most stack of each call over histories, strange and damaged images.
 fn stacks() {
     let mut most = [0; NAMES.len()];
@@ -177,13 +235,10 @@ fn stacks() {
     let mut calls = 0;
     while calls < 200_000 {
         let mut case = stream.next_case();
-        let mut image = case.image.clone();
-        while let Some(call) = case.next_call(&image) {
-            let mut log = match &call {
-                Call::TakeLog { buffer } => buffer.clone(),
-                _ => Vec::new(),
-            };
-            let took = depth(|| archive(&mut image, &mut log, &call));
+        let (mut image, mut lent) = (case.image.clone(), Lent::default());
+        while let Some(call) = case.next_call(&image, lent.last) {
+            lent.give(&call);
+            let took = depth(|| archive(&mut image, &mut lent, &call));
             most[kind(&call)] = most[kind(&call)].max(took);
             calls += 1;
         }
@@ -202,13 +257,15 @@ fn lines(count: usize) {
             0 => Call::SetUp { n: 8 },
             _ => busy.next_call(),
         };
-        plain(&mut busy.image, &mut [], &call);
+        plain(&mut busy.image, &mut Lent::default(), &call);
         text += &match call {
             Call::SetUp { n } => format!("n {n}\n"),
             Call::BeginAcquisition { p, priority } => format!("a {p} {priority}\n"),
             Call::BeginRelease { p } => format!("r {p}\n"),
             Call::Step { p } => format!("s {p}\n"),
-            Call::TakeLog { .. } => unreachable!("a busy table has no such call"),
+            Call::TakeLog { .. } | Call::Turn { .. } => {
+                unreachable!("a busy table has no such call")
+            }
         };
     }
     print!("{text}");
@@ -218,7 +275,11 @@ fn main() -> ExitCode {
     let words: Vec<_> = std::env::args().skip(1).collect();
     let words: Vec<_> = words.iter().map(String::as_str).collect();
     match words[..] {
-        ["time"] => times(),
+        ["time"] => {
+            times();
+            println!();
+            turns();
+        }
         ["stack"] => stacks(),
         ["lines", count] if count.parse::<usize>().is_ok() => lines(count.parse().unwrap()),
         _ => {

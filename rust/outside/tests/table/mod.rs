@@ -1,4 +1,4 @@
-//! A table of three modules on a desk, looked at by byte offsets of document 01.
+//! A table on a desk, looked at by byte offsets of document 01.
 
 use compare::{Desk, Said};
 
@@ -7,13 +7,14 @@ pub const FREE: u32 = 4;
 
 pub struct Table<'a> {
     pub desk: &'a mut dyn Desk,
-    pub image: [u8; 16 * 3 + 268],
+    pub image: Vec<u8>,
 }
 
 impl Table<'_> {
-    pub fn fresh(desk: &mut dyn Desk) -> Table<'_> {
-        let mut image = [0; 16 * 3 + 268];
-        assert_eq!(desk.set_up(&mut image, 3), Said::answered(0));
+    /// A fresh table of n modules.
+    pub fn fresh(desk: &mut dyn Desk, n: u32) -> Table<'_> {
+        let mut image = vec![0; 16 * n as usize + 268];
+        assert_eq!(desk.set_up(&mut image, n), Said::answered(0));
         Table { desk, image }
     }
 
@@ -27,7 +28,7 @@ impl Table<'_> {
 
     /// The records found from the lock word.
     pub fn found(&self) -> Vec<u8> {
-        let mut found = vec![self.image[16 * 3 + 256]];
+        let mut found = vec![self.image[self.image.len() - 12]];
         while let Some(&last) = found.last().filter(|&&last| last != 0) {
             found.push(self.record(last.into())[8]);
         }
