@@ -40,6 +40,9 @@ is-module b f p at me framed least most place same =
       me-is = same ∙ ap (privateAt b) there ∙ sym (private-read b p least high);
     }
 
+pub same-number : (call : ℕ → Call) (b : List ℕ) {p q : ℕ} {x : Reply} {b′ : List ℕ} → p ≡ q → Does (call p) b x b′ → Does (call q) b x b′
+same-number call b {x = x} {b′ = b′} same = subst (λ (j : ℕ). Does (call j) b x b′) same
+
 -- the two ways out of the search for a module
 module _ (b : List ℕ) (p unknown : ℕ) (r : Found) (finds : Finds b p unknown r) where
   pub was-refused : (k : ℕ) → r ≡ found.Refused k → given (unfound b p unknown) ≡ some k
@@ -53,7 +56,7 @@ module _ (b : List ℕ) (p unknown : ℕ) (r : Found) (finds : Finds b p unknown
 
   -- what a call does for the module found it does for p
   pub by-number : (call : ℕ → Call) (q i : ℕ) {x : Reply} {b′ : List ℕ} → r ≡ found.Number q → i ≡ q → Does (call i) b x b′ → Does (call p) b x b′
-  by-number call q i {x} {b′} e same does = subst (λ (j : ℕ). Does (call j) b x b′) (same ∙ is-named q e) does
+  by-number call q i e same = same-number call b (same ∙ is-named q e)
 
 module _ (b : List ℕ) (m : Module) (is : IsModule b m) where
   -- the module that its step looks at

@@ -1,6 +1,6 @@
 -- The search for the module whose turn is next. Assumes nothing.
 use Prim.Native.Nat.{ℕ, suc, _+_, _-_, _*_, _≤_, _<_}
-use mathlib.Core.Path.{_≡_, refl, sym, _∙_, ap, ap₂, subst, subst⁻¹, subst₂}
+use mathlib.Core.Path.{_≡_, refl, sym, _∙_, ap, ap₂, subst, subst⁻¹}
 use mathlib.Core.Bool.{Bool, true, false, cond, not, _||_}
 use mathlib.Core.List.{List, [], _∷_, _++_}
 use mathlib.Core.Option.{Option, none, some}
@@ -114,10 +114,10 @@ module _ (b : List ℕ) (m : ℕ) where
     nobody-steps r tells e =
         subst⁻¹ (λ (t : Turn). Gives t b m (Answered (answerOf Nobody)) b m) (turn-is none (subst (Tells (nextAfter (read b) m)) e tells)) (refl, refl, refl)
 
-    pub steps : {r : Reply} {b′ : List ℕ} (x : Turned) (n : Next) (p i : ℕ) → Tells (nextAfter (read b) m) n → n ≡ next.Module p → i ≡ p → Does (step i) b r b′
+    pub steps : {r : Reply} {b′ : List ℕ} (x : Turned) (n : Next) (p : ℕ) → Tells (nextAfter (read b) m) n → n ≡ next.Module p → Does (step p) b r b′
         → (x .reply ≡ r) × (x .last ≡ moved p m r) → GivesTurn b m (x .reply) b′ (x .last)
-    steps {r} {b′} x n p i tells e same does to =
+    steps {r} {b′} x n p tells e does to =
         subst⁻¹ (λ (t : Turn). Gives t b m (x .reply) b′ (x .last)) (turn-is (some p) (subst (Tells (nextAfter (read b) m)) e tells)) (
-          subst₂ (λ (j : ℕ) (z : Reply). Does (step j) b z b′) same (sym (to .0)) does,
+          subst⁻¹ (λ (z : Reply). Does (step p) b z b′) (to .0) does,
           to .1 ∙ ap (moved p m) (sym (to .0)),
         )

@@ -424,11 +424,12 @@ fn begin_release_of(image: &mut [u8], m: Module) -> Reply
     Reply::Answered(Answer::DONE)
 }
 
-// One step of a module that was found.
-fn step_of(image: &mut [u8], m: Module) -> Reply
-    requires { ⌜ IsModule (now image) m ⌝ }
-    ensures { λ r. ⌜ Does (Calls.step (m .number)) (now (image .entry)) r (now (image .exit)) ⌝ }
+// One step of a module that was found. It takes the number: the parts of a module, handed over by value, would go through memory.
+fn step_of(image: &mut [u8], number: u8) -> Reply
+    requires { ⌜ IsNumber (now image) number ⌝ }
+    ensures { λ r. ⌜ Does (Calls.step number) (now (image .entry)) r (now (image .exit)) ⌝ }
 {
+    let m = module_of(image, number);
     if rests(m.me.stage) {
         return Reply::Refused(4);
     }
@@ -497,10 +498,7 @@ fn turn_after(image: &mut [u8], last: u8) -> Turned
             reply: Reply::Answered(Answer::NOBODY),
             last: last as u32,
         },
-        Next::Module(p) => {
-            let m = module_of(image, p);
-            moved(p, last as u32, step_of(image, m))
-        }
+        Next::Module(p) => moved(p, last as u32, step_of(image, p)),
     }
 }
 
@@ -567,10 +565,7 @@ pub fn step(image: &mut [u8], p: u32) -> Reply
     let found = find(image, p, 2);
     match found {
         Found::Refused(k) => Reply::Refused(k),
-        Found::Number(number) => {
-            let m = module_of(image, number);
-            step_of(image, m)
-        }
+        Found::Number(number) => step_of(image, number),
     }
 }
 

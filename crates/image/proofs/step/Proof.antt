@@ -1,5 +1,6 @@
 -- `step` refuses what `find` refuses, and is `step_of` for the module found.
 -- Assumes nothing.
+use mathlib.Core.Path.{refl}
 use borrow.Author.Needs.{needs}
 use Rattle.stage.specs.Calls
 use Rattle.image.proofs.Modules.{was-refused, was-found, by-number}
@@ -17,11 +18,8 @@ enum-known-found c = search needs
 enum-known-found-2 : tie.Need-enum-known-found-2
 enum-known-found-2 c = search needs
 
-module-of-requires : tie.Need-module-of-requires
-module-of-requires c κs = was-found _ _ _ _ (c .before .before .before .before .find .ensures) _ (c .before .before .found2 .given .1)
-
 step-of-requires : tie.Need-step-of-requires
-step-of-requires c κs = search needs
+step-of-requires c κs = was-found _ _ _ _ (c .before .before .before .before .find .ensures) _ (c .before .before .found2 .given .1)
 
 same-length : tie.Need-same-length
 same-length c = search needs
@@ -34,7 +32,7 @@ same-length-2 c = search needs
 
 returns-2 : tie.Need-returns-2
 returns-2 c =
-    by-number _ _ _ _ (c .before .before .before .before .before .before .before .before .before .find .ensures) Calls.step _ _ (c .before .before .before .before .before .before .before .found2 .given .1) (c .before .before .before .before .module-of .ensures .1)
+    by-number _ _ _ _ (c .before .before .before .before .before .before .before .find .ensures) Calls.step _ _ (c .before .before .before .before .before .found2 .given .1) refl
     (c .before .before .step-of .ensures)
 
 pub step-spec : {M : Type 1} → statement M
@@ -44,7 +42,6 @@ step-spec =
     find-requires
     enum-known-found
     enum-known-found-2
-    module-of-requires
     step-of-requires
     same-length
     returns

@@ -14,11 +14,8 @@ enum-told c = search needs
 enum-known-next : tie.Need-enum-known-next
 enum-known-next c = search needs
 
-module-of-requires : tie.Need-module-of-requires
-module-of-requires c κs = is-known _ _ (c .before .before .before .before .before .before .before .pre) _ _ (c .before .before .before .before .next-after .ensures) (c .before .before .next .given .1)
-
 step-of-requires : tie.Need-step-of-requires
-step-of-requires c κs = search needs
+step-of-requires c κs = is-known _ _ (c .before .before .before .before .before .before .before .pre) _ _ (c .before .before .before .before .next-after .ensures) (c .before .before .next .given .1)
 
 moved-requires : tie.Need-moved-requires
 moved-requires c κs = search needs
@@ -34,9 +31,9 @@ same-length-2 c = search needs
 
 returns-2 : tie.Need-returns-2
 returns-2 c =
-    let found = c .before .before .before .before .before .before .before .before in
-    steps _ _ (found .before .before .before .before .before .pre) _ _ _ _ (found .before .before .next-after .ensures) (found .next .given .1)
-    (c .before .before .before .before .before .module-of .ensures .1) (c .before .before .before .step-of .ensures) (c .moved .ensures)
+    let found = c .before .before .before .before .before .before in
+    steps _ _ (found .before .before .before .before .before .pre) _ _ _ (found .before .before .next-after .ensures) (found .next .given .1)
+    (c .before .before .before .step-of .ensures) (c .moved .ensures)
 
 pub turn-after-spec : {M : Type 1} → statement M
 turn-after-spec =
@@ -45,7 +42,6 @@ turn-after-spec =
     next-after-requires
     enum-told
     enum-known-next
-    module-of-requires
     step-of-requires
     moved-requires
     same-length
