@@ -29,11 +29,15 @@ pub record Exports (c : Call) (b : List ℕ) (r : ℕ) (b′ : List ℕ) : Type 
   pub says : r ≡ packed (reply c b)
   pub leaves : b′ ≡ image c b
 
--- the same of a turn, with the marker m before it and m′ after it
-pub record ExportsTurn (b : List ℕ) (m r : ℕ) (b′ : List ℕ) (m′ : ℕ) : Type 0 where
+-- r is the number of something said that P holds of
+pub record Says (P : Reply → Type 0) (r : ℕ) : Type 0 where
   pub said : Reply
   pub says : r ≡ packed said
-  pub gives : GivesTurn b m said b′ m′
+  pub holds : P said
+
+-- what the contract of the exported turn says, with the marker m before it and m′ after it
+abbrev pub ExportsTurn : (b : List ℕ) (m r : ℕ) (b′ : List ℕ) (m′ : ℕ) → Type 0
+ExportsTurn b m r b′ m′ = Says (λ said. GivesTurn b m said b′ m′) r
 
 -- The call takes the log. A caller knows that, since it made the call: a log of no entry and a call that is done are both packed to 0.
 abbrev pub takes : Call → Bool

@@ -6,8 +6,9 @@ ghost use mathlib.Core.Path.{_≡_};
 ghost use lib.ListN.{length};
 ghost use Rattle.stage.specs.Calls.{setUp, beginAcquisition, beginRelease, step, takeLog};
 ghost use Rattle.image.specs.Call.{buffer};
+ghost use Rattle.image.specs.Turn.{Advances};
 ghost use Rattle.desk.specs.Packed as Packed;
-ghost use Rattle.desk.specs.Packed.{Exports, ExportsTurn};
+ghost use Rattle.desk.specs.Packed.{Exports, Says, ExportsTurn};
 
 // The turn marker: the number of the module that was served last.
 #[repr(C)]
@@ -33,6 +34,18 @@ fn packed(reply: Reply) -> u32
                 + 256 * (stage::module_admitted(event) as u32)
                 + 65536 * (stage::length_taken(event) as u32)
         }
+    }
+}
+
+// A step of the module p, or of the one whose turn is next after p.
+fn advanced(image: &mut [u8], p: u32, next: bool) -> Told
+    ensures { λ r. ⌜ Says (λ said. Advances next (now (image .entry)) p said (now (image .exit)) (r .last)) (r .said) ⌝ }
+{
+    let t = image::advance(image, p, next);
+    let reply = t.reply;
+    Told {
+        said: packed(reply),
+        last: t.last,
     }
 }
 
@@ -65,7 +78,7 @@ pub extern "C" fn mokroshel_begin_release(image: &mut [u8], p: u32) -> u32
 pub extern "C" fn mokroshel_step(image: &mut [u8], p: u32) -> u32
     ensures { λ r. ⌜ Exports (step p) (now (image .entry)) r (now (image .exit)) ⌝ }
 {
-    packed(image::step(image, p))
+    advanced(image, p, false).said
 }
 
 // Takes the log: its entries go to the buffer that is lent for them.
@@ -81,12 +94,7 @@ pub extern "C" fn mokroshel_take_log(image: &mut [u8], log: &mut [u8]) -> u32
 fn turned(image: &mut [u8], last: u32) -> Told
     ensures { λ r. ⌜ ExportsTurn (now (image .entry)) last (r .said) (now (image .exit)) (r .last) ⌝ }
 {
-    let t = image::turn(image, last);
-    let reply = t.reply;
-    Told {
-        said: packed(reply),
-        last: t.last,
-    }
+    advanced(image, last, true)
 }
 
 // Hands out a turn, and moves the marker on in place.

@@ -54,6 +54,9 @@ module _ (b : List ℕ) (p unknown : ℕ) (r : Found) (finds : Finds b p unknown
   pub is-named : (q : ℕ) → r ≡ found.Number q → q ≡ p
   is-named q e = subst (Finds b p unknown) e finds .1
 
+  pub names-one : (q : ℕ) → r ≡ found.Number q → IsNumber b p
+  names-one q e = subst (IsNumber b) (is-named q e) (was-found q e)
+
   -- what a call does for the module found it does for p
   pub by-number : (call : ℕ → Call) (q i : ℕ) {x : Reply} {b′ : List ℕ} → r ≡ found.Number q → i ≡ q → Does (call i) b x b′ → Does (call p) b x b′
   by-number call q i e same = same-number call b (same ∙ is-named q e)

@@ -38,7 +38,7 @@ pub release-refused : (b : List ℕ) (p : ℕ) → refused (beginRelease p) b �
 unfolding refused refusals unfound read
 release-refused b p = refl
 
-abbrev step-asks : List ℕ → ℕ → List (Bool × ℕ)
+abbrev pub step-asks : List ℕ → ℕ → List (Bool × ℕ)
 step-asks b p =
     (rests (read b) p, 4)
     ∷ (admits (stepOf (next size) (read b) p .answer .event) && leb capacity (length (read b .log)), 5)

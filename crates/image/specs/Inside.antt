@@ -1,6 +1,6 @@
 -- What the private functions of this crate say of what they hand one another. No public contract cites this file.
 use mathlib.Core.Path.{_≡_}
-use mathlib.Core.Bool.{Bool, true, not}
+use mathlib.Core.Bool.{Bool, true, false, not}
 use mathlib.Core.List.{List, [], _∷_}
 use mathlib.Core.Option.{Option, none, some}
 use Prim.Native.Nat.{ℕ, _≤_}
@@ -9,8 +9,8 @@ use Rattle.link.specs.Count as Count
 use Rattle.link.specs.Count.{size}
 use Rattle.stage.specs.Calls.{within, capacity, refusing, rests}
 use Rattle.stage.specs.Rows.{looksAt}
-use Rattle.stage.specs.Table.{stepOf}
-use Rattle.stage.specs.Turns.{from, firstThat}
+use Rattle.stage.specs.Table.{Table, stepOf}
+use Rattle.stage.specs.Turns.{from, firstThat, nextAfter}
 use Rattle.layout.specs.Layout.{lengthFor, trailerAt, modules, logAt, firstAt, recordAt, held, read}
 use Rattle.layout.proofs.Stores.{puts}
 use Rattle.layout.proofs.Changes.{privateBytes, sharedBytes}
@@ -62,6 +62,11 @@ Finds b p unknown (found.Number q) = IsNumber b q × (q ≡ p)
 -- the first of k modules from p on that can step
 abbrev pub firstAble : List ℕ → ℕ → ℕ → Option ℕ
 firstAble b p k = firstThat (λ q. not (rests (read b) q)) (from p k)
+
+-- who is to step: p itself, or whoever is next after p
+abbrev pub choice : Bool → Table → ℕ → Option ℕ
+choice false t p = some p
+choice true t p = nextAfter t p
 
 -- a module or none, as the code has it
 abbrev pub Tells : Option ℕ → Next → Type 0

@@ -10,7 +10,7 @@ use stage::Reply;
 use stage::Shared;
 use stage::Stepped;
 ghost use mathlib.Core.Path.{_≡_};
-ghost use mathlib.Core.Bool.{true, false, _&&_, _||_};
+ghost use mathlib.Core.Bool.{true, false, cond, _&&_, _||_};
 ghost use mathlib.Core.List.{[], _++_};
 ghost use Prim.Native.Nat.{_+_, _-_, _*_, _^_, _≤_, _<_};
 ghost use lib.Dec.{eqb, leb};
@@ -26,9 +26,9 @@ ghost use Rattle.layout.proofs.Stores.{puts};
 ghost use Rattle.layout.proofs.Changes.{privateBytes, sharedBytes, lengthBytes};
 ghost use Rattle.soundness.specs.SoundImage.{sound};
 ghost use Rattle.image.specs.Call.{Does, buffer, lockWord};
-ghost use Rattle.image.specs.Inside.{Framed, IsNumber, IsModule, Finds, firstAble, Tells, Looks, partsPut};
+ghost use Rattle.image.specs.Inside.{Framed, IsNumber, IsModule, Finds, firstAble, choice, Tells, Looks, partsPut};
 ghost use Rattle.image.specs.Turn as Turn;
-ghost use Rattle.image.specs.Turn.{GivesTurn};
+ghost use Rattle.image.specs.Turn.{GivesTurn, Advances};
 
 // Where the parts of a sound image lie: its n, the places of record 1, of the log and of the trailer, and how many entries are held.
 struct Frame {
@@ -207,6 +207,16 @@ fn rests(stage: u8) -> bool
         13 => true,
         _ => false,
     }
+}
+
+// The refusal of a number that is no module's: as a call's, or as a turn's marker.
+fn unknown(next: bool) -> u8
+    ensures { λ r. ⌜ r ≡ cond next 10 2 ⌝ }
+{
+    if next {
+        return 10;
+    }
+    2
 }
 
 // The module of a number.
@@ -474,6 +484,17 @@ fn next_after(image: &[u8], last: u8) -> Next
     }
 }
 
+// Who is to step: the module of a number, or the one whose turn is next after it.
+fn chosen(image: &[u8], number: u8, next: bool) -> Next
+    requires { ⌜ IsNumber (now image) number ⌝ }
+    ensures { λ r. ⌜ Tells (choice next (read (now (image .entry))) number) r ⌝ }
+{
+    if next {
+        return next_after(image, number);
+    }
+    Next::Module(number)
+}
+
 // The marker after the step of p, by what the step says.
 fn moved(p: u8, last: u32, reply: Reply) -> Turned
     ensures { λ r. ⌜ (r .reply ≡ reply) × (r .last ≡ Turn.moved p last reply) ⌝ }
@@ -484,21 +505,6 @@ fn moved(p: u8, last: u32, reply: Reply) -> Turned
             reply,
             last: p as u32,
         },
-    }
-}
-
-// A turn where the marker names a module.
-fn turn_after(image: &mut [u8], last: u8) -> Turned
-    requires { ⌜ IsNumber (now image) last ⌝ }
-    ensures { λ r. ⌜ GivesTurn (now (image .entry)) last (r .reply) (now (image .exit)) (r .last) ⌝ }
-{
-    let next = next_after(image, last);
-    match next {
-        Next::Nobody => Turned {
-            reply: Reply::Answered(Answer::NOBODY),
-            last: last as u32,
-        },
-        Next::Module(p) => moved(p, last as u32, step_of(image, p)),
     }
 }
 
@@ -558,29 +564,42 @@ pub fn begin_release(image: &mut [u8], p: u32) -> Reply
     }
 }
 
+// One step: of the module p or, where `next` says so, of the one whose turn is next after p. Both are one function, for a second place that
+// calls `step_of` would keep the compiler from putting it in place: what a step says would go through memory.
+pub fn advance(image: &mut [u8], p: u32, next: bool) -> Turned
+    ensures { λ r. ⌜ Advances next (now (image .entry)) p (r .reply) (now (image .exit)) (r .last) ⌝ }
+{
+    let found = find(image, p, unknown(next));
+    match found {
+        Found::Refused(k) => Turned {
+            reply: Reply::Refused(k),
+            last: p,
+        },
+        Found::Number(number) => {
+            let who = chosen(image, number, next);
+            match who {
+                Next::Nobody => Turned {
+                    reply: Reply::Answered(Answer::NOBODY),
+                    last: p,
+                },
+                Next::Module(q) => moved(q, p, step_of(image, q)),
+            }
+        }
+    }
+}
+
 // One step of the module p.
 pub fn step(image: &mut [u8], p: u32) -> Reply
     ensures { λ r. ⌜ Does (Calls.step p) (now (image .entry)) r (now (image .exit)) ⌝ }
 {
-    let found = find(image, p, 2);
-    match found {
-        Found::Refused(k) => Reply::Refused(k),
-        Found::Number(number) => step_of(image, number),
-    }
+    advance(image, p, false).reply
 }
 
 // Hands out a turn: the module after the last one served takes a step. By value: the marker goes in as a number and comes back.
 pub fn turn(image: &mut [u8], last: u32) -> Turned
     ensures { λ r. ⌜ GivesTurn (now (image .entry)) last (r .reply) (now (image .exit)) (r .last) ⌝ }
 {
-    let found = find(image, last, 10);
-    match found {
-        Found::Refused(k) => Turned {
-            reply: Reply::Refused(k),
-            last,
-        },
-        Found::Number(number) => turn_after(image, number),
-    }
+    advance(image, last, true)
 }
 
 // Takes the log: its entries go to the buffer that is lent for them.
