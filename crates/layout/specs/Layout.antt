@@ -3,9 +3,8 @@
 -- "Owner's bytes may come first and never change. Then n records of 16 bytes, then 256 log bytes, then a trailer of 12 bytes at the very end of
 -- the buffer. Numbers are big-endian."
 use Prim.Native.Nat.{ℕ, zero, suc, _+_, _-_, _*_, _/_, _%_}
-use mathlib.Core.Bool.{Bool, cond}
+use mathlib.Core.Bool.{cond}
 use mathlib.Core.List.{List, [], _∷_, _++_}
-use lib.Dec.{leb}
 use lib.ListN.{length, getD, take, drop, replicate}
 use Rattle.link.specs.declared.Link.{Link}
 use Rattle.stage.specs.Calls.{within, capacity}

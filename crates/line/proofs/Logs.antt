@@ -1,6 +1,6 @@
 -- The log: the firsts of the line are all that was admitted, and then the first that is not inside yet. Assumes nothing.
 use Prim.Native.Nat.{ℕ, suc}
-use mathlib.Core.Path.{_≡_, refl, sym, _∙_, ap, subst, subst⁻¹}
+use mathlib.Core.Path.{_≡_, refl, sym, _∙_, ap, subst⁻¹}
 use mathlib.Core.Bool.{Bool, true, false, cond}
 use mathlib.Core.List.{List, [], _∷_, _++_, append-assoc, append-nil}
 use mathlib.Core.Logic.{_≢_, inl, inr, ⊎-elim}
@@ -9,7 +9,6 @@ use borrow.Author.Tests.{eqb-true}
 use Rattle.laws.proofs.Cases.{choose, test}
 use Rattle.laws.proofs.Only.{among, included}
 use Rattle.link.specs.Operations.{same, swapped, CLOSED}
-use Rattle.link.specs.declared.Swapped.the-variants as swap
 use Rattle.stage.proofs.Update.{upd-same, upd-other, upd-all, upd-kept}
 use Rattle.stage.specs.Rows.{find, rows, looked, looksAt, stepped, after9}
 use Rattle.stage.specs.Table.{upd, logged}

@@ -1,6 +1,6 @@
 -- The rows by which a module seeks its place: each keeps it away from the line. Assumes nothing.
 use Prim.Native.Nat.{ℕ, suc, _≤_}
-use mathlib.Core.Path.{_≡_, refl, subst, subst⁻¹}
+use mathlib.Core.Path.{_≡_, refl, subst⁻¹}
 use mathlib.Core.Logic.{_≢_, inl, inr}
 use lib.Dec.{T, lit≤, eqb, ltb}
 use borrow.Author.Tests.{eqb-true, eqb-false, ltb-true, ltb-false}

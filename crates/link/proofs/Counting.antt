@@ -1,8 +1,8 @@
 -- Counts modulo m tell fewer than m changes apart, and no more. Assumes nothing.
-use Prim.Native.Nat.{ℕ, zero, suc, _+_, _-_, _%_, _≤_, _<_}
-use mathlib.Core.Path.{_≡_, refl, sym, _∙_, ap}
+use Prim.Native.Nat.{ℕ, zero, suc, _+_, _-_, _%_, _<_}
+use mathlib.Core.Path.{_≡_, sym, _∙_, ap}
 use mathlib.Core.Logic.{⊎-elim}
-use native.Mathlib.Nat.{mod-eq-of-lt, mod-eq-sub-mod, mod-add-mod, mod-lt, add-mod-right, add-zero}
+use native.Mathlib.Nat.{mod-eq-of-lt, mod-eq-sub-mod, mod-add-mod, mod-lt, add-mod-right}
 use native.Mathlib.Omega.{arith}
 use Rattle.laws.proofs.Cases.{below}
 use Rattle.link.specs.Count.{next, changes, Another, TheSame}

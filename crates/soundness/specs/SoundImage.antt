@@ -1,8 +1,8 @@
 -- Which images of edition 1 are sound. Document 01, "The image": "An image is sound when ..". The rules on what the bytes mean, once they are read
 -- into a table, are `soundTable`'s.
-use Prim.Native.Nat.{ℕ, zero, suc, _+_, _-_, _*_}
+use Prim.Native.Nat.{ℕ, _+_}
 use mathlib.Core.Bool.{Bool, _&&_}
-use mathlib.Core.List.{List, [], _∷_}
+use mathlib.Core.List.{List}
 use lib.Dec.{eqb, leb}
 use lib.ListN.{length, take, drop}
 use Rattle.stage.specs.Calls.{capacity}
