@@ -31,7 +31,8 @@
  *   3. A turn that is refused (5) leaves the marker too: turns meet that module again, and serve nobody behind it, until the log is taken.
  *
  * With one marker that only turns move, a module that is neither idle nor inside over n accepted turns is stepped in one of them, whatever calls
- * for other modules fall between: steps and turns may be mixed.
+ * fall between: steps and turns may be mixed. And from the begin of a release with somebody behind it in the line, the next one is admitted within
+ * 6n - 1 accepted turns; no less would do, where all others wait.
  *
  * The log. Each admission adds one entry, the module's number, to the held log, which has room for 256. Take it with mokroshel_take_log before
  * it is full: while it is, a step or turn that would admit is refused (5) and changes nothing. A buffer of MOKROSHEL_LOG bytes always suffices.

@@ -181,7 +181,8 @@ impl<B: AsRef<[u8]> + AsMut<[u8]>> Image<B> {
     /// Hands out a turn: takes one step for the first module after the marker around the table, the
     /// marker's own module last, that is neither idle nor inside. The marker then tells which it was.
     /// A module that is neither idle nor inside over n accepted turns is stepped in one of them,
-    /// whatever calls for other modules fall between.
+    /// whatever calls fall between; and from the begin of a release with somebody behind it in the
+    /// line, the next one is admitted within 6n - 1 accepted turns.
     ///
     /// If nobody can step, the answer is [`Answer::Nobody`]. Then, and where the turn is refused,
     /// image and marker stay as they were. A turn is refused if the marker is not 1 to n, and after
