@@ -1,7 +1,7 @@
 -- Turns on sound images: what a turn comes to, that histories with turns are those of the contracts, and that turns are fair. Assumes nothing.
 use Prim.Native.Nat.{ℕ, _+_, _≤_, _<_}
 use mathlib.Core.Path.{_≡_, refl, sym, _∙_, ap, subst, subst⁻¹}
-use mathlib.Core.Bool.{true, false, not, _||_, and-false, true≢false}
+use mathlib.Core.Bool.{true, false, cond, not, _||_, and-false, true≢false}
 use mathlib.Core.List.{List, [], _∷_}
 use mathlib.Core.Logic.{_⊎_, inl, inr, ⊎-elim}
 use mathlib.Core.Option.{some}
@@ -13,16 +13,20 @@ use Rattle.laws.proofs.Cases.{choose, both-are}
 use Rattle.link.specs.Count.{next, size}
 use Rattle.stage.proofs.Around.{ahead, ahead-most, first-around, first-closer}
 use Rattle.stage.proofs.Refusing.{refused-or, is-within}
-use Rattle.stage.specs.Answers.{answerOf}
+use Rattle.stage.proofs.Events.{Of, agrees}
+use Rattle.stage.specs.Answers.{numberOf, answerOf}
 use Rattle.stage.specs.Calls.{Call, setUp, beginAcquisition, beginRelease, step, takeLog, within, capacity, rests, refusals, refusing, answered, after, called}
-use Rattle.stage.specs.Table.{Table, idle, freshTable, begunAcquisition, begunRelease, afterStep, logTaken}
+use Rattle.stage.specs.Rows.{looksAt}
+use Rattle.stage.specs.Table.{Table, idle, freshTable, begunAcquisition, begunRelease, stepOf, afterStep, logTaken}
 use Rattle.stage.specs.Turns.{nextAfter}
 use Rattle.stage.specs.declared.Answer.{Answer}
-use Rattle.stage.specs.declared.Event.the-variants.{Nobody}
+use Rattle.stage.specs.declared.Event.{Event}
+use Rattle.stage.specs.declared.Event.the-variants.{Done, Waiting, Admitted, Joined, Left, Finished, Taken, Nobody}
 use Rattle.stage.specs.declared.Reply.{Reply}
 use Rattle.stage.specs.declared.Reply.the-variants.{Refused, Answered}
 use Rattle.layout.specs.Layout.{read}
 use Rattle.soundness.specs.SoundImage.{sound}
+use Rattle.image.proofs.Sound as Sound
 use Rattle.image.specs.Call.{refused, reply, image}
 use Rattle.image.specs.Turn as T
 use Rattle.image.specs.Turn.{Turn, nobody, stepBy, turnOf, found, moved, Gives}
@@ -31,7 +35,7 @@ use Rattle.line.specs.History.{state}
 use Rattle.claims.proofs.Images.{leaves-is, shown, known, read-idle}
 use Rattle.claims.proofs.Promises.{stays-sound}
 use Rattle.claims.specs.Claims.{images}
-use Rattle.claims.specs.Turns.{Move, call, turn, Past, stepping, turning, past, imageAfter, Able, Faithful, Fair, NotRefused}
+use Rattle.claims.specs.Turns.{Move, call, turn, Past, stepping, turning, past, imageAfter, Able, seen, Faithful, Fair, NotRefused}
 
 -- histories of the contracts -----------------------------------------------------------------------------------------------------
 
@@ -45,21 +49,51 @@ unfolding stepping
 stepping-or P q x no·q yes·q (Refused k) = no·q k
 stepping-or P q x no·q yes·q (Answered a) = yes·q a
 
+-- no step says that nobody can step
+step-not-nine : (p : ℕ) (e : Event) → Of p e → eqb (numberOf e) 9 ≡ false
+step-not-nine p Done o = refl
+step-not-nine p Waiting o = refl
+step-not-nine p (Admitted q) o = refl
+step-not-nine p Joined o = refl
+step-not-nine p Left o = refl
+step-not-nine p Finished o = refl
+step-not-nine p (Taken k) o = absurd o
+step-not-nine p Nobody o = absurd o
+
+not-nine : (p : ℕ) (b : List ℕ) (a : Answer) → reply (step p) b ≡ Answered a → eqb (a .number) 9 ≡ false
+unfolding reply refused refusals answered stepOf
+not-nine p b a =
+    refused-or (λ (r : Reply). r ≡ Answered a → eqb (a .number) 9 ≡ false) (refused (step p) b) Refused _
+    (λ k e. absurd (let z : _≡_ {A = ℕ} 0 1 = cc in omega arith))
+    (λ u e.
+    let t = read b in
+    let s = Sound.table b (not-false (sound b) (u .0)) in
+    let k = is-within 1 (t .n) p (u .1 .0) in
+    let said = agrees (next size) p (t .private p) (t .shared (looksAt p (t .private p))) (t .lock) (s .private p (k .0) (k .1) .stage) in
+    let same : stepOf (next size) t p .answer ≡ a = cc in
+    subst (λ (z : Answer). eqb (z .number) 9 ≡ false) (sym (said .number) ∙ same) (step-not-nine p (stepOf (next size) t p .answer .event) (said .itself)))
+
 module _ (b : List ℕ) (x : Past) where
   abbrev here : List ℕ
   here = state images b (x .calls)
 
   gives-is :
       (t : Turn) (r : Reply) (b′ : List ℕ) (m′ : ℕ) → Gives t here (x .marker) r b′ m′
-      → (b′ ≡ state images b (turning t here x .calls)) × (m′ ≡ turning t here x .marker)
-  unfolding turning state
-  gives-is (T.refused k) r b′ m′ g = (g .1, g .2)
-  gives-is nobody r b′ m′ g = (g .1, g .2)
+      → (b′ ≡ state images b (turning t here x .calls)) × (m′ ≡ turning t here x .marker) × (seen r m′ (x .served) ≡ turning t here x .served)
+  unfolding turning state seen
+  gives-is (T.refused k) r b′ m′ g = (g .1, g .2, ap (λ (z : Reply). seen z m′ (x .served)) (g .0))
+  gives-is nobody r b′ m′ g = (g .1, g .2, ap (λ (z : Reply). seen z m′ (x .served)) (g .0))
   gives-is (stepBy p) r b′ m′ g =
-      stepping-or (λ r′ y. r ≡ r′ → (b′ ≡ state images b (y .calls)) × (m′ ≡ y .marker)) p x
-      (λ k e. (g .0 .leaves, g .1 ∙ ap (moved p (x .marker)) e))
-      (λ a e. (g .0 .leaves, g .1 ∙ ap (moved p (x .marker)) e))
-      (reply (step p) here) (g .0 .says)
+      stepping-or
+      (λ r′ y. r ≡ r′ → reply (step p) here ≡ r′ → (b′ ≡ state images b (y .calls)) × (m′ ≡ y .marker) × (seen r m′ (x .served) ≡ y .served)) p x
+      (λ k e _. (g .0 .leaves, g .1 ∙ ap (moved p (x .marker)) e, ap (λ (z : Reply). seen z m′ (x .served)) e))
+      (λ a e says.
+      let to = g .1 ∙ ap (moved p (x .marker)) e in (
+        g .0 .leaves,
+        to,
+        ap (λ (z : Reply). seen z m′ (x .served)) e ∙ (λ i. cond (not-nine p here a says i) 0 (to i) ∷ x .served),
+      ))
+      (reply (step p) here) (g .0 .says) refl
 
 pub faithful : (b : List ℕ) (m : ℕ) (earlier : List Move) → Faithful b m earlier
 unfolding past state

@@ -1,9 +1,10 @@
 -- Document 02, R-2, of histories on images: calls, and turns with one marker.
 use Prim.Native.Nat.{ℕ, zero, suc, _+_, _*_, _≤_, _<_}
 use mathlib.Core.Path.{_≡_}
-use mathlib.Core.Bool.{true, false}
+use mathlib.Core.Bool.{true, false, cond}
 use mathlib.Core.List.{List, [], _∷_, _++_}
 use mathlib.Core.Logic.{_⊎_}
+use lib.Dec.{eqb}
 use lib.ListN.{length}
 use Rattle.link.specs.Count.{size}
 use Rattle.stage.specs.Answers.{answerOf}
@@ -61,14 +62,22 @@ module _ (b : List ℕ) (m : ℕ) where
   Able p [] = rests (read b) p ≡ false
   Able p (x ∷ earlier) = (rests (read (imageAfter (x ∷ earlier))) p ≡ false) × Able p earlier
 
--- That these histories are those of the contracts: what the contract of a call, and that of a turn, says of the image and the marker after it.
+-- whom the accepted turns stepped, as a caller sees it: a turn said r and left the marker m; 9 is that nobody can step
+unfoldable pub seen : Reply → ℕ → List ℕ → List ℕ
+seen (Refused k) m served = served
+seen (Answered a) m served = cond (eqb (a .number) 9) 0 m ∷ served
+
+-- That these histories are those of the contracts: what the contract of a call, and that of a turn, says of the image and the marker after it, and
+-- what the caller makes of it.
 pub record Faithful (b : List ℕ) (m : ℕ) (earlier : List Move) : Type 0 where
   pub calls :
       (c : Call) (r : Reply) (b′ : List ℕ) → Does c (imageAfter b m earlier) r b′
       → (b′ ≡ imageAfter b m (call c ∷ earlier)) × (past b m earlier .marker ≡ past b m (call c ∷ earlier) .marker)
   pub turns :
       (r : Reply) (b′ : List ℕ) (m′ : ℕ) → GivesTurn (imageAfter b m earlier) (past b m earlier .marker) r b′ m′
-      → (b′ ≡ imageAfter b m (turn ∷ earlier)) × (m′ ≡ past b m (turn ∷ earlier) .marker)
+      → (b′ ≡ imageAfter b m (turn ∷ earlier))
+      × (m′ ≡ past b m (turn ∷ earlier) .marker)
+      × (seen r m′ (past b m earlier .served) ≡ past b m (turn ∷ earlier) .served)
 
 -- "It is proved that a module at neither stage 0 nor 13 over n accepted turns is stepped in one of them, whatever calls for other modules fall
 -- between." Of every sound image, reached or not, with any marker, and whatever calls fall between.
