@@ -239,11 +239,11 @@ fn look(image: &[u8], m: Module) -> Looked
     requires { ⌜ IsModule (now image) m ⌝ }
     ensures { λ r. ⌜ Looks (now (image .entry)) m r ⌝ }
 {
-    let at = place(m.frame.first, stage::looks_at(m.me, m.number));
+    let at = place(m.frame.first, row::looks_at(m.me, m.number));
     let trailer = m.frame.trailer;
     Looked {
         at,
-        stepped: stage::step(m.number, m.me, shared_at(image, at), image[trailer]),
+        stepped: row::step(m.number, m.me, shared_at(image, at), image[trailer]),
     }
 }
 

@@ -1,4 +1,3 @@
-pub mod AtStage
 pub mod ByStage
 pub mod Events
 pub mod Every

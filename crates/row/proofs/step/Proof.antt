@@ -2,10 +2,10 @@
 -- Assumes nothing.
 use mathlib.Core.Path.{_∙_, sym}
 use borrow.Author.Needs.{needs}
 use Rattle.stage.specs.Rows.{find, rows}
-use Rattle.stage.proofs.AtStage.{tests, past-the-table}
-use Rattle.stage.proofs.step.Statement.{statement}
-use Rattle.stage.proofs.step.Tie as tie
+use Rattle.row.proofs.AtStage.{tests, past-the-table}
+use Rattle.row.proofs.step.Statement.{statement}
+use Rattle.row.proofs.step.Tie as tie
 
 pub step-spec : {M : Type 1} → statement M
 unfolding find rows

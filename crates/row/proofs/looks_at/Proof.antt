@@ -1,9 +1,9 @@
 -- `looks_at` is what the row of its stage has, arm by arm; at all other stages it is the module itself.
 -- Assumes nothing.
 use Rattle.stage.specs.Rows.{find, rows}
-use Rattle.stage.proofs.AtStage.{tests, at-itself}
-use Rattle.stage.proofs.looks_at.Statement.{statement}
-use Rattle.stage.proofs.looks_at.Tie as tie
+use Rattle.row.proofs.AtStage.{tests, at-itself}
+use Rattle.row.proofs.looks_at.Statement.{statement}
+use Rattle.row.proofs.looks_at.Tie as tie
 
 pub looks-at-spec : {M : Type 1} → statement M
 unfolding find rows
