@@ -70,6 +70,7 @@ unpacked log x =
 abbrev pub LosesNothing : Type 0
 LosesNothing = (c : Call) (b : List ℕ) → unpacked (takes c) (packed (reply c b)) ≡ reply c b
 
+-- nor of what a turn says
 abbrev pub TurnsToo : Type 0
 TurnsToo =
     (b : List ℕ) (m : ℕ) (r : Reply) (b′ : List ℕ) (m′ : ℕ) → GivesTurn b m r b′ m′ → unpacked false (packed r) ≡ r
