@@ -16,7 +16,7 @@ pub struct Marker {
     pub last: u32,
 }
 
-// What a turn says, as one number, and the marker after it.
+// What a step or a turn says, as one number, and the marker after it.
 struct Told {
     said: u32,
     last: u32,

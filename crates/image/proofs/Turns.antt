@@ -99,11 +99,8 @@ chose-next onward t m r e tells = subst⁻¹ (λ (x : Bool). Tells (choice x t m
 
 -- what was told of a search, where its number i is p
 module _ (b : List ℕ) (onward : Bool) (i p : ℕ) (same : i ≡ p) (r : Next) (tells : Tells (choice onward (read b) i) r) where
-  pub told-one : (q : ℕ) → r ≡ next.Module q → choice onward (read b) p ≡ some q
-  told-one q e = ap (choice onward (read b)) (sym same) ∙ subst (Tells (choice onward (read b) i)) e tells
-
-  pub told-none : r ≡ next.Nobody → choice onward (read b) p ≡ none
-  told-none e = ap (choice onward (read b)) (sym same) ∙ subst (Tells (choice onward (read b) i)) e tells
+  pub told : (r′ : Next) → r ≡ r′ → Tells (choice onward (read b) p) r′
+  told r′ e = subst₂ (λ (k : ℕ) (x : Next). Tells (choice onward (read b) k) x) same e tells
 
 -- a turn, by what was found
 module _ (b : List ℕ) (m : ℕ) where

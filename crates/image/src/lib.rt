@@ -1,7 +1,7 @@
 // The five calls and the turn on an image of edition 1, and its lock word.
 //
-// 01, "What a call says", and 02, R-2. A call checks the image, refuses by the lowest number that applies, reads the parts that it needs, and
-// stores the bytes of the parts that it changes.
+// 01, "What a call says", and 02, R-2. A call checks the image, refuses by the lowest number that applies (a turn by 1, 10, then 5), reads the
+// parts that it needs, and stores the bytes of the parts that it changes.
 use link::Link;
 use stage::Answer;
 use stage::Event;
@@ -59,7 +59,7 @@ enum Next {
     Module(u8),
 }
 
-// A turn: what it says, and the marker after it.
+// What a step or a turn says, and the marker after it.
 pub struct Turned {
     pub reply: Reply,
     pub last: u32,
@@ -434,7 +434,7 @@ fn begin_release_of(image: &mut [u8], m: Module) -> Reply
     Reply::Answered(Answer::DONE)
 }
 
-// One step of a module that was found. It takes the number: the parts of a module, handed over by value, would go through memory.
+// One step of a module that was found.
 fn step_of(image: &mut [u8], number: u8) -> Reply
     requires { ⌜ IsNumber (now image) number ⌝ }
     ensures { λ r. ⌜ Does (Calls.step number) (now (image .entry)) r (now (image .exit)) ⌝ }

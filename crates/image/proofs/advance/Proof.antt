@@ -3,7 +3,7 @@
 use borrow.Author.Needs.{needs}
 use denote.Ref.{now}
 use Rattle.image.proofs.Modules.{was-refused, was-found, is-named, names-one}
-use Rattle.image.proofs.Turns.{told-one, told-none, not-advanced, choice-known, nobody-advances, advances}
+use Rattle.image.proofs.Turns.{told, not-advanced, choice-known, nobody-advances, advances}
 use Rattle.image.proofs.advance.Statement.{statement}
 use Rattle.image.proofs.advance.Tie as tie
 
@@ -36,7 +36,7 @@ step-of-requires c κs =
     let finds = found .before .before .find .ensures in
     let is = found .found2 .given .1 in
     choice-known _ _ (names-one _ _ _ _ finds _ is) (start .next) _
-    (told-one (now (start .image)) (start .next) _ _ (is-named _ _ _ _ finds _ is) _ (chose .chosen .ensures) _ (c .before .before .who .given .1))
+    (told (now (start .image)) (start .next) _ _ (is-named _ _ _ _ finds _ is) _ (chose .chosen .ensures) _ (c .before .before .who .given .1))
 
 moved-requires : tie.Need-moved-requires
 moved-requires c κs = search needs
@@ -57,7 +57,7 @@ returns-2 c =
     let finds = found .before .before .find .ensures in
     let is = found .found2 .given .1 in
     nobody-advances _ _ (names-one _ _ _ _ finds _ is) (start .next)
-    (told-none (now (start .image)) (start .next) _ _ (is-named _ _ _ _ finds _ is) _ (c .before .before .chosen .ensures) (c .enum-told .given .1))
+    (told (now (start .image)) (start .next) _ _ (is-named _ _ _ _ finds _ is) _ (c .before .before .chosen .ensures) _ (c .enum-told .given .1))
 
 same-length-3 : tie.Need-same-length-3
 same-length-3 c = search needs
@@ -70,7 +70,7 @@ returns-3 c =
     let finds = found .before .before .find .ensures in
     let is = found .found2 .given .1 in
     advances _ _ (names-one _ _ _ _ finds _ is) (start .next) _ _ _ _
-    (told-one (now (start .image)) (start .next) _ _ (is-named _ _ _ _ finds _ is) _ (chose .chosen .ensures) _ (c .before .before .before .before .before .before .who .given .1))
+    (told (now (start .image)) (start .next) _ _ (is-named _ _ _ _ finds _ is) _ (chose .chosen .ensures) _ (c .before .before .before .before .before .before .who .given .1))
     (c .before .before .before .step-of .ensures) (c .moved .ensures)
 
 pub advance-spec : {M : Type 1} → statement M
