@@ -1,2 +1,3 @@
 pub mod Counting
+pub mod InPlace
 pub mod Comparing

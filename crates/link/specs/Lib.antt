@@ -1,2 +1,3 @@
 pub mod Count
+pub mod InPlace
 pub mod Operations

@@ -1,6 +1,6 @@
 -- The tables have the rules of a record in them: a record whose bytes lie between the numbers that they have for its stage is a sound one.
 -- Assumes nothing.
-use Prim.Native.Nat.{ℕ, zero, suc, _+_, _*_, _%_, _<_, _≤_, zero-le}
+use Prim.Native.Nat.{ℕ, zero, suc, _+_, _*_, _%_, _<_, _≤_, min, zero-le}
 use mathlib.Core.Path.{_≡_, refl, sym, _∙_, subst}
 use mathlib.Core.Bool.{Bool, true, false, cond, _&&_, and-true}
 use mathlib.Core.Logic.{⊎-elim}
@@ -17,7 +17,7 @@ use Rattle.stage.specs.Rows.{last}
 use Rattle.stage.specs.Sound.{at, each, soundLink, soundOwn, soundStage, soundPrivate, soundShared}
 use Rattle.layout.specs.Layout.{byte, privateAt, sharedAt}
 use Rattle.soundness.specs.SoundImage.{soundZeros}
-use Rattle.soundness.specs.Parts.{recordRight, recordsRight, below, lanesRight, leastRow, greatestRow, leastTable, greatestTable, leastRows, greatestRows}
+use Rattle.soundness.specs.Parts.{recordRight, recordsRight, below, lanesRight, leastRow, greatestRow, leastTable, greatestTable, leastRows}
 use Rattle.soundness.proofs.Lists.{only-zero, sorted}
 use Rattle.soundness.proofs.Parts.{records-next}
 
@@ -55,10 +55,10 @@ asked b place n s =
     lanesRight b place (leastRow (cond (eqb s 0) 0 1) (cond (within 4 10 s) 1 0) (cond (within 7 7 s) 1 0) (cond (within 17 18 s) 1 0)) 0
     (greatestRow (cond (eqb s 0) 0 254) n) 0
 
-looked-up : (b : List ℕ) (place n s : ℕ) → s < 32 → lanesRight b place leastTable (getD leastRows s 0) (greatestTable n) (getD greatestRows s 0) ≡ asked b place n s
+looked-up : (b : List ℕ) (place n s : ℕ) → s < 32 → lanesRight b place leastTable (getD leastRows s 0) (greatestTable n) (min (getD leastRows s 0) 16) ≡ asked b place n s
 unfolding asked lanesRight below
 looked-up b place n =
-    from-below (λ s. lanesRight b place leastTable (getD leastRows s 0) (greatestTable n) (getD greatestRows s 0) ≡ asked b place n s) 32
+    from-below (λ s. lanesRight b place leastTable (getD leastRows s 0) (greatestTable n) (min (getD leastRows s 0) 16) ≡ asked b place n s) 32
     ((((((((((((((((((((((((((((((((tt, refl), refl), refl), refl), refl), refl), refl), refl), refl), refl), refl), refl), refl), refl), refl), refl), refl), refl), refl), refl), refl), refl), refl), refl), refl), refl), refl), refl), refl), refl), refl), refl)
 
 -- a lane by what it asks: not 0 where c holds; own priority; any byte
@@ -108,7 +108,7 @@ by-remainder stage own prev pointer next = go (leb stage last) refl
     go false e = rw e
 
 by-tables : (b : List ℕ) (n place : ℕ) → ((i : ℕ) → byte b i < 256)
-    → lanesRight b place leastTable (getD leastRows (byte b place % 32) 0) (greatestTable n) (getD greatestRows (byte b place % 32) 0) ≡ recordRight b n place
+    → lanesRight b place leastTable (getD leastRows (byte b place % 32) 0) (greatestTable n) (min (getD leastRows (byte b place % 32) 0) 16) ≡ recordRight b n place
 unfolding recordRight soundPrivate privateAt
 by-tables b n place small =
     looked-up b place n (byte b place % 32) (omega arith)
@@ -116,9 +116,9 @@ by-tables b n place small =
     ∙ rw (by-remainder (byte b place) (byte b (place + 1)) (byte b (place + 2)) (byte b (place + 3)) (byte b (place + 14)))
 
 -- all records so far, and one more
-pub records-more : (b least greatest lows highs : List ℕ) (n first p stage low high : ℕ) (was now : Bool) → ((i : ℕ) → Fits w8 (byte b i))
-    → least ≡ leastTable → greatest ≡ greatestTable n → lows ≡ leastRows → highs ≡ greatestRows
-    → stage ≡ byte b (first + 16 * p) % 32 → low ≡ getD lows stage 0 → high ≡ getD highs stage 0
+pub records-more : (b least greatest lows : List ℕ) (n first p stage low high : ℕ) (was now : Bool) → ((i : ℕ) → Fits w8 (byte b i))
+    → least ≡ leastTable → greatest ≡ greatestTable n → lows ≡ leastRows
+    → stage ≡ byte b (first + 16 * p) % 32 → low ≡ getD lows stage 0 → high ≡ min (getD lows stage 0) 16
     → was ≡ recordsRight b n first p → now ≡ (was && lanesRight b (first + 16 * p) least low greatest high) → now ≡ recordsRight b n first (p + 1)
-records-more b least greatest lows highs n first p stage low high was now small e₁ e₂ e₃ e₄ e₅ e₆ e₇ e w =
-    w ∙ records-next b n first p was _ e (rw (e₁, e₂, e₆, e₇, e₃, e₄, e₅) (by-tables b n (first + 16 * p) (λ i. small i .fits)))
+records-more b least greatest lows n first p stage low high was now small e₁ e₂ e₃ e₄ e₅ e₆ e w =
+    w ∙ records-next b n first p was _ e (rw (e₁, e₂, e₅, e₆, e₃, e₄) (by-tables b n (first + 16 * p) (λ i. small i .fits)))

@@ -47,7 +47,7 @@ leastRow own prev pointer s = 0 ∷ own ∷ prev ∷ pointer ∷ 0 ∷ 0 ∷ 0 �
 abbrev pub greatestRow : ℕ → ℕ → List ℕ
 greatestRow own n = last ∷ own ∷ n ∷ n ∷ 1 ∷ 0 ∷ 255 ∷ 255 ∷ n ∷ 1 ∷ 255 ∷ 255 ∷ 255 ∷ 1 ∷ n ∷ 0 ∷ []
 
--- the tables, and where in them the row of each stage starts
+-- the tables, and where in the first of them the row of each stage starts; in the other it starts there too, but at 16 at most
 abbrev pub leastTable : List ℕ
 leastTable = leastRow 0 0 0 0 ++ leastRow 1 0 0 0 ++ leastRow 1 1 0 0 ++ leastRow 1 1 1 0 ++ leastRow 1 0 0 1
 
@@ -56,6 +56,3 @@ greatestTable n = greatestRow 0 n ++ greatestRow 254 n
 
 abbrev pub leastRows : List ℕ
 leastRows = 0 ∷ 16 ∷ 16 ∷ 16 ∷ 32 ∷ 32 ∷ 32 ∷ 48 ∷ 32 ∷ 32 ∷ 32 ∷ 16 ∷ 16 ∷ 16 ∷ 16 ∷ 16 ∷ 16 ∷ 64 ∷ 64 ∷ replicate 13 16
-
-abbrev pub greatestRows : List ℕ
-greatestRows = 0 ∷ replicate 31 16

@@ -15,14 +15,14 @@ use stage::Private;
 use stage::Shared;
 ghost use mathlib.Core.Path.{_≡_};
 ghost use mathlib.Core.Bool.{_&&_};
-ghost use Prim.Native.Nat.{_+_, _-_, _*_, _<_, _≤_, max};
+ghost use Prim.Native.Nat.{_+_, _-_, _*_, _<_, _≤_, min, max};
 ghost use lib.Dec.{leb};
 ghost use lib.ListN.{length};
 ghost use Rattle.stage.specs.Calls.{within};
 ghost use Rattle.stage.specs.Sound.{at, each, soundLink, soundOwn, soundStage, soundPrivate, soundShared};
 ghost use Rattle.layout.specs.Layout as Layout;
 ghost use Rattle.soundness.specs.SoundImage as SoundImage;
-ghost use Rattle.soundness.specs.Parts.{trailerRight, logRight, recordRight, recordsRight, leastTable, greatestTable, leastRows, greatestRows, lanesRight, contentRight};
+ghost use Rattle.soundness.specs.Parts.{trailerRight, logRight, recordRight, recordsRight, leastTable, greatestTable, leastRows, lanesRight, contentRight};
 
 // A byte as a wider number.
 fn wide(x: u8) -> usize
@@ -112,7 +112,8 @@ fn least_rows() -> [u8; 32]
     table
 }
 
-// The greatest that each byte of a record may be, in two rows of 16: at stage 0, and at the others.
+// The greatest that each byte of a record may be, in two rows of 16: at stage 0, and at the others. A stage's row starts where it does in
+// `least`, but at 16 at most.
 fn greatest(n: u8) -> [u8; 32]
     ensures { λ r. ⌜ r ≡ greatestTable n ⌝ }
 {
@@ -146,15 +147,6 @@ fn greatest(n: u8) -> [u8; 32]
     table
 }
 
-// Where the row of each stage starts in `greatest`.
-fn greatest_rows() -> [u8; 32]
-    ensures { λ r. ⌜ r ≡ greatestRows ⌝ }
-{
-    let mut table = [16; 32];
-    table[0] = 0;
-    table
-}
-
 // How far x lies above y.
 fn above(x: u8, y: u8) -> u8
     ensures { λ r. ⌜ r ≡ x - y ⌝ }
@@ -167,6 +159,13 @@ fn greater(x: u8, y: u8) -> u8
     ensures { λ r. ⌜ r ≡ max x y ⌝ }
 {
     if x > y { x } else { y }
+}
+
+// The lesser of the two.
+fn lesser(x: u8, y: u8) -> u8
+    ensures { λ r. ⌜ r ≡ min x y ⌝ }
+{
+    if x < y { x } else { y }
 }
 
 // How far off the bytes of all records are, with one more record. Nowhere, if so before and each of its bytes lies between its two.
@@ -200,20 +199,20 @@ fn sound_many(image: &[u8], first: usize, n: usize) -> bool
     let least = least();
     let greatest = greatest(n as u8);
     let lows = least_rows();
-    let highs = greatest_rows();
     let mut off = [0; 16];
     for p in 0..n {
         let at = first + 16 * p;
         // A number that is no stage fails in its own lane, whatever the row.
         let stage = wide(image[at] % 32);
+        let low = lows[stage];
         off = farther(
             off,
             image,
             at,
             &least,
-            wide(lows[stage]),
+            wide(low),
             &greatest,
-            wide(highs[stage]),
+            wide(lesser(low, 16)),
         );
     }
     all_within(0, 0, &off)
