@@ -37,18 +37,6 @@ fn packed(reply: Reply) -> u32
     }
 }
 
-// A step of the module p, or of the one whose turn is next after p.
-fn advanced(image: &mut [u8], p: u32, next: bool) -> Told
-    ensures { λ r. ⌜ Says (λ said. Advances next (now (image .entry)) p said (now (image .exit)) (r .last)) (r .said) ⌝ }
-{
-    let t = image::advance(image, p, next);
-    let reply = t.reply;
-    Told {
-        said: packed(reply),
-        last: t.last,
-    }
-}
-
 // Sets up a fresh table of n modules.
 #[no_mangle]
 pub extern "C" fn mokroshel_set_up(image: &mut [u8], n: u32) -> u32
@@ -78,7 +66,7 @@ pub extern "C" fn mokroshel_begin_release(image: &mut [u8], p: u32) -> u32
 pub extern "C" fn mokroshel_step(image: &mut [u8], p: u32) -> u32
     ensures { λ r. ⌜ Exports (step p) (now (image .entry)) r (now (image .exit)) ⌝ }
 {
-    advanced(image, p, false).said
+    packed(image::step(image, p))
 }
 
 // Takes the log: its entries go to the buffer that is lent for them.
@@ -94,7 +82,12 @@ pub extern "C" fn mokroshel_take_log(image: &mut [u8], log: &mut [u8]) -> u32
 fn turned(image: &mut [u8], last: u32) -> Told
     ensures { λ r. ⌜ ExportsTurn (now (image .entry)) last (r .said) (now (image .exit)) (r .last) ⌝ }
 {
-    advanced(image, last, true)
+    let t = image::turn(image, last);
+    let reply = t.reply;
+    Told {
+        said: packed(reply),
+        last: t.last,
+    }
 }
 
 // Hands out a turn, and moves the marker on in place.

@@ -3,6 +3,7 @@
 // 01, "What a call says", and 02, R-2. A call checks the image, refuses by the lowest number that applies (a turn by 1, 10, then 5), reads the
 // parts that it needs, and stores the bytes of the parts that it changes.
 use link::Link;
+use link::Place;
 use stage::Answer;
 use stage::Event;
 use stage::Private;
@@ -64,6 +65,9 @@ pub struct Turned {
     pub reply: Reply,
     pub last: u32,
 }
+
+// A refusal's number is this much more where what a step says is one number.
+const REFUSED: u8 = 16;
 
 // A step, before it is stored: the place of the record that it looks at, and what it leaves.
 struct Looked {
@@ -173,6 +177,28 @@ fn put_length(image: &mut [u8], at: usize, k: u16)
     image[at + 5] = (k % 256) as u8;
 }
 
+// Where w lies in the record at a place.
+fn w_of(at: usize) -> Place
+    requires { ⌜ at + 16 < 2 ^ 64 ⌝ }
+    ensures { λ r. ⌜ r ≡ wPlace at ⌝ }
+{
+    Place {
+        pointer: at + 3,
+        count: at + 6,
+    }
+}
+
+// Where the link lies in the record at a place.
+fn link_of(at: usize) -> Place
+    requires { ⌜ at + 16 < 2 ^ 64 ⌝ }
+    ensures { λ r. ⌜ r ≡ linkPlace at ⌝ }
+{
+    Place {
+        pointer: at + 8,
+        count: at + 10,
+    }
+}
+
 // The place of module p's record.
 fn place(first: usize, p: u8) -> usize
     requires { ⌜ (1 ≤ p) × (first + 16 * p < 2 ^ 64) ⌝ }
@@ -207,16 +233,6 @@ fn rests(stage: u8) -> bool
         13 => true,
         _ => false,
     }
-}
-
-// The refusal of a number that is no module's: as a call's, or as a turn's marker.
-fn unknown(next: bool) -> u8
-    ensures { λ r. ⌜ r ≡ cond next 10 2 ⌝ }
-{
-    if next {
-        return 10;
-    }
-    2
 }
 
 // The module of a number.
@@ -434,24 +450,67 @@ fn begin_release_of(image: &mut [u8], m: Module) -> Reply
     Reply::Answered(Answer::DONE)
 }
 
-// One step of a module that was found.
-fn step_of(image: &mut [u8], number: u8) -> Reply
-    requires { ⌜ IsNumber (now image) number ⌝ }
-    ensures { λ r. ⌜ Does (Calls.step number) (now (image .entry)) r (now (image .exit)) ⌝ }
+// A step at stage 9: a swap of the links where they lie. What it says, as one number.
+fn swap_of(image: &mut [u8], number: u8) -> u8
+    requires { ⌜ IsNumber (now image) number × (byte (now image) (recordAt (now image) number) ≡ 9) ⌝ }
+    ensures { λ r. ⌜ Says number (now (image .entry)) r (now (image .exit)) ⌝ }
+{
+    let first = frame_of(image).first;
+    let at = place(first, number);
+    let its = link_of(place(first, image[at + 2]));
+    let done = its.swap(image, w_of(at), number);
+    let after = row::after_swap(done, image[at + 4]);
+    image[at] = after.stage;
+    let answer = after.answer;
+    answer.number
+}
+
+// A step at any other stage, by value. What it says, as one number.
+fn row_of(image: &mut [u8], number: u8) -> u8
+    requires { ⌜ IsNumber (now image) number × (Calls.rests (read (now image)) number ≡ false) ⌝ }
+    ensures { λ r. ⌜ Says number (now (image .entry)) r (now (image .exit)) ⌝ }
 {
     let m = module_of(image, number);
-    if rests(m.me.stage) {
-        return Reply::Refused(4);
-    }
     let l = look(image, m);
     let s = l.stepped;
     let answer = s.answer;
     let event = answer.event;
     if overfills(event, m.frame.held) {
-        return Reply::Refused(5);
+        return REFUSED + 5;
     }
     store(image, m, l);
-    Reply::Answered(answer)
+    answer.number
+}
+
+// One step of a module that was found. What it says, as one number.
+fn step_of(image: &mut [u8], number: u8) -> u8
+    requires { ⌜ IsNumber (now image) number ⌝ }
+    ensures { λ r. ⌜ Says number (now (image .entry)) r (now (image .exit)) ⌝ }
+{
+    let at = place(frame_of(image).first, number);
+    let stage = image[at];
+    if rests(stage) {
+        return REFUSED + 4;
+    }
+    if stage == row::SWAP {
+        return swap_of(image, number);
+    }
+    row_of(image, number)
+}
+
+// What the step of a module says, from its one number.
+fn replied(number: u8, said: u8) -> Reply
+    ensures { λ r. ⌜ r ≡ Inside.replied number said ⌝ }
+{
+    match said {
+        0 => Reply::Answered(Answer::DONE),
+        1 => Reply::Answered(Answer::WAITING),
+        2 => Reply::Answered(Answer::admitted(number)),
+        3 => Reply::Answered(Answer::JOINED),
+        4 => Reply::Answered(Answer::LEFT),
+        5 => Reply::Answered(Answer::FINISHED),
+        _ => Reply::Refused(said % 16),
+    }
 }
 
 // The first of the modules from p to the one before `end` that can step.
@@ -482,17 +541,6 @@ fn next_after(image: &[u8], last: u8) -> Next
         Next::Module(p) => Next::Module(p),
         Next::Nobody => first_able(image, frame, 1, last + 1),
     }
-}
-
-// Who is to step: the module of a number, or the one whose turn is next after it.
-fn chosen(image: &[u8], number: u8, next: bool) -> Next
-    requires { ⌜ IsNumber (now image) number ⌝ }
-    ensures { λ r. ⌜ Tells (choice next (read (now (image .entry))) number) r ⌝ }
-{
-    if next {
-        return next_after(image, number);
-    }
-    Next::Module(number)
 }
 
 // The marker after the step of p, by what the step says.
@@ -564,42 +612,38 @@ pub fn begin_release(image: &mut [u8], p: u32) -> Reply
     }
 }
 
-// One step: of the module p or, where `next` says so, of the one whose turn is next after p. Both are one function, for a second place that
-// calls `step_of` would keep the compiler from putting it in place: what a step says would go through memory.
-pub fn advance(image: &mut [u8], p: u32, next: bool) -> Turned
-    ensures { λ r. ⌜ Advances next (now (image .entry)) p (r .reply) (now (image .exit)) (r .last) ⌝ }
-{
-    let found = find(image, p, unknown(next));
-    match found {
-        Found::Refused(k) => Turned {
-            reply: Reply::Refused(k),
-            last: p,
-        },
-        Found::Number(number) => {
-            let who = chosen(image, number, next);
-            match who {
-                Next::Nobody => Turned {
-                    reply: Reply::Answered(Answer::NOBODY),
-                    last: p,
-                },
-                Next::Module(q) => moved(q, p, step_of(image, q)),
-            }
-        }
-    }
-}
-
 // One step of the module p.
 pub fn step(image: &mut [u8], p: u32) -> Reply
     ensures { λ r. ⌜ Does (Calls.step p) (now (image .entry)) r (now (image .exit)) ⌝ }
 {
-    advance(image, p, false).reply
+    let found = find(image, p, 2);
+    match found {
+        Found::Refused(k) => Reply::Refused(k),
+        Found::Number(number) => replied(number, step_of(image, number)),
+    }
 }
 
 // Hands out a turn: the module after the last one served takes a step. By value: the marker goes in as a number and comes back.
 pub fn turn(image: &mut [u8], last: u32) -> Turned
     ensures { λ r. ⌜ GivesTurn (now (image .entry)) last (r .reply) (now (image .exit)) (r .last) ⌝ }
 {
-    advance(image, last, true)
+    let found = find(image, last, 10);
+    match found {
+        Found::Refused(k) => Turned {
+            reply: Reply::Refused(k),
+            last,
+        },
+        Found::Number(number) => {
+            let who = next_after(image, number);
+            match who {
+                Next::Nobody => Turned {
+                    reply: Reply::Answered(Answer::NOBODY),
+                    last,
+                },
+                Next::Module(p) => moved(p, last, replied(p, step_of(image, p))),
+            }
+        }
+    }
 }
 
 // Takes the log: its entries go to the buffer that is lent for them.

@@ -1,1 +1,2 @@
 pub mod AtStage
+pub mod AfterSwap

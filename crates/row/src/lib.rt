@@ -11,6 +11,7 @@ use stage::Stepped;
 ghost use mathlib.Core.Path.{_≡_};
 ghost use Rattle.link.specs.Count.{next, size};
 ghost use Rattle.stage.specs.Rows.{looksAt, stepped};
+ghost use Rattle.row.specs.AfterSwap.{Follows};
 
 // Whose shared part the module p looks at in its step.
 pub fn looks_at(me: Private, p: u8) -> u8
@@ -26,6 +27,31 @@ pub fn looks_at(me: Private, p: u8) -> u8
         17 => me.s,
         18 => me.s,
         _ => p,
+    }
+}
+
+// The stage whose row is a swap.
+pub const SWAP: u8 = 9;
+
+// Where a swap leads, and its answer.
+pub struct After {
+    pub stage: u8,
+    pub answer: Answer,
+}
+
+// What follows a swap at stage 9: it was done, or it failed and found a link with this mark.
+pub fn after_swap(done: bool, mark: u8) -> After
+    ensures { λ r. ⌜ Follows done mark r ⌝ }
+{
+    if done {
+        return After {
+            stage: 11,
+            answer: Answer::JOINED,
+        };
+    }
+    After {
+        stage: if mark == link::CLOSED { 1 } else { 10 },
+        answer: Answer::DONE,
     }
 }
 
@@ -102,13 +128,15 @@ pub fn step(p: u8, me: Private, its: Shared, mut lock: u8) -> Stepped
         9 => match link.swap(w, p) {
             Swapped::Done(now) => {
                 link = now;
-                next = 11;
-                Answer::JOINED
+                let after = after_swap(true, now.mark);
+                next = after.stage;
+                after.answer
             }
             Swapped::Failed(found) => {
                 w = found;
-                next = if found.mark == link::CLOSED { 1 } else { 10 };
-                Answer::DONE
+                let after = after_swap(false, found.mark);
+                next = after.stage;
+                after.answer
             }
         },
         10 => {

@@ -3,6 +3,7 @@
 use mathlib.Core.Path.{_∙_, sym}
 use borrow.Author.Needs.{needs}
 use Rattle.stage.specs.Rows.{find, rows}
+use Rattle.row.proofs.AfterSwap.{row-done, row-failed}
 use Rattle.row.proofs.AtStage.{tests, past-the-table}
 use Rattle.row.proofs.step.Statement.{statement}
 use Rattle.row.proofs.step.Tie as tie
@@ -18,7 +19,9 @@ step-spec =
     (λ c κs. search needs)
     (λ c κs. search needs)
     (λ c. search needs)
+    (λ c κs. search needs)
     (λ c. search needs)
+    (λ c κs. search needs)
     (λ c κs. search needs)
     (λ c κs. search needs)
     (λ c κs. search needs)
@@ -36,9 +39,12 @@ step-spec =
     (λ c. search tests)
     (λ c. search tests)
     (λ c. search (tests, c .point2 .ensures))
-    (λ c. search (tests, sym (c .before .before .before .swap .ensures) ∙ c .before .now .given .1))
-    (λ c. search (tests, sym (c .before .before .before .before .before .swap .ensures) ∙ c .before .before .before .found .given .1))
-    (λ c. search (tests, sym (c .before .before .before .before .before .swap .ensures) ∙ c .before .before .before .found .given .1))
+    (λ c.
+    let before = c .before .before .before in
+    row-done _ _ _ _ _ (before .before .before .before .match .keys10) _ _ (sym (before .before .before .swap .ensures) ∙ before .now .given .1) (c .before .after-swap .ensures))
+    (λ c.
+    let before = c .before .before .before in
+    row-failed _ _ _ _ _ (before .before .before .before .match .keys10) _ _ (sym (before .before .before .swap .ensures) ∙ before .found .given .1) (c .before .after-swap2 .ensures))
     (λ c. search tests)
     (λ c. search tests)
     (λ c. search (tests, c .open2 .ensures))
