@@ -6,9 +6,8 @@ ghost use mathlib.Core.Path.{_≡_};
 ghost use lib.ListN.{length};
 ghost use Rattle.stage.specs.Calls.{setUp, beginAcquisition, beginRelease, step, takeLog};
 ghost use Rattle.image.specs.Call.{buffer};
-ghost use Rattle.image.specs.Turn.{Advances};
 ghost use Rattle.desk.specs.Packed as Packed;
-ghost use Rattle.desk.specs.Packed.{Exports, Says, ExportsTurn};
+ghost use Rattle.desk.specs.Packed.{Exports, ExportsTurn};
 
 // The turn marker: the number of the module that was served last.
 #[repr(C)]

@@ -9,3 +9,5 @@ pub mod Taken
 pub mod Fresh
 pub mod Outcomes
 pub mod Turns
+pub mod Replies
+pub mod Swapping

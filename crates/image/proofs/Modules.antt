@@ -61,13 +61,16 @@ module _ (b : List ℕ) (p unknown : ℕ) (r : Found) (finds : Finds b p unknown
   pub by-number : (call : ℕ → Call) (q i : ℕ) {x : Reply} {b′ : List ℕ} → r ≡ found.Number q → i ≡ q → Does (call i) b x b′ → Does (call p) b x b′
   by-number call q i e same = same-number call b (same ∙ is-named q e)
 
+-- the module that a step looks at
+pub seen : (b : List ℕ) (p : ℕ) → IsNumber b p → (1 ≤ looksAt p (read b .private p)) × (looksAt p (read b .private p) ≤ modules b)
+unfolding read
+seen b p is = looks-known (modules b) p _ (is .1) (is .2) (table b (is .0) .private p (is .1) (is .2))
+
 module _ (b : List ℕ) (m : Module) (is : IsModule b m) where
-  -- the module that its step looks at
-  pub seen : (1 ≤ looksAt (m .number) (m .me)) × (looksAt (m .number) (m .me) ≤ modules b)
-  unfolding read
-  seen =
+  pub sees : (1 ≤ looksAt (m .number) (m .me)) × (looksAt (m .number) (m .me) ≤ modules b)
+  sees =
       subst⁻¹ (λ (me : Private). (1 ≤ looksAt (m .number) me) × (looksAt (m .number) me ≤ modules b)) (is .me-is)
-      (looks-known (modules b) (m .number) _ (is .least) (is .most) (table b (is .framed .is) .private (m .number) (is .least) (is .most)))
+      (seen b (m .number) (is .framed .is, is .least, is .most))
 
   pub looks : (q at : ℕ) (s : Stepped) → q ≡ looksAt (m .number) (m .me) → at ≡ m .frame .first + 16 * (q - 1) → s ≡ stepped (next size) (m .number) (m .me) (sharedAt b at) (byte b (m .frame .trailer)) →
       Looks b m (record { at = at; stepped = s })
@@ -77,12 +80,12 @@ module _ (b : List ℕ) (m : Module) (is : IsModule b m) where
       let there : at ≡ recordAt b (looksAt p (m .me)) = omega (arith, is .framed .first-is) in
       record {
         is = is;
-        least = seen .0;
-        most = seen .1;
+        least = sees .0;
+        most = sees .1;
         at-is = there;
         stepped-is =
             same
             ∙ ap₂ (λ (i k : ℕ). stepped (next size) p (m .me) (sharedAt b i) (byte b k)) there (is .framed .trailer-is)
-            ∙ ap (λ (its : Shared). stepped (next size) p (m .me) its (byte b (trailerAt b))) (sym (shared-read b (looksAt p (m .me)) (seen .0) (seen .1)))
+            ∙ ap (λ (its : Shared). stepped (next size) p (m .me) its (byte b (trailerAt b))) (sym (shared-read b (looksAt p (m .me)) (sees .0) (sees .1)))
             ∙ ap (λ (me : Private). stepped (next size) p me (read b .shared (looksAt p me)) (read b .lock)) (is .me-is);
       }

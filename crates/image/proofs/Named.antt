@@ -1,7 +1,7 @@
 -- What the calls that name a module say and leave, once it is found.
 -- Assumes nothing.
 use mathlib.Core.Path.{_≡_, refl, sym, _∙_, ap}
-use mathlib.Core.Bool.{Bool, true, false, not, _&&_, _||_}
+use mathlib.Core.Bool.{Bool, true, false, not, _&&_}
 use mathlib.Core.List.{List, [], _∷_, _++_}
 use Prim.Native.Nat.{ℕ, _≤_}
 use borrow.Author.Tests.{ne-eqb}
@@ -11,13 +11,13 @@ use Rattle.link.specs.Count.{next, size}
 use Rattle.stage.specs.Answers.{answerOf}
 use Rattle.stage.specs.Calls.{Call, beginAcquisition, beginRelease, step, within, rests, admits, capacity, refusing, refusals, answered, after}
 use Rattle.stage.specs.Table.{begunAcquisition, begunRelease, stepOf, afterStep}
+use Rattle.stage.specs.declared.Answer.{Answer}
 use Rattle.stage.specs.declared.Event.the-variants.{Done}
 use Rattle.stage.specs.declared.Private.{Private}
-use Rattle.stage.specs.declared.Stepped.{Stepped}
 use Rattle.stage.specs.declared.Reply.the-variants.{Refused, Answered}
 use Rattle.layout.specs.Layout.{held, read, put}
 use Rattle.image.specs.Call.{refused, Does}
-use Rattle.image.specs.Inside.{given, unfound, IsModule, Looks}
+use Rattle.image.specs.Inside.{given, unfound, IsNumber, IsModule, Looks}
 use Rattle.image.specs.declared.Module.{Module}
 use Rattle.image.specs.declared.Looked.{Looked}
 use Rattle.image.proofs.Modules.{entries}
@@ -38,11 +38,11 @@ pub release-refused : (b : List ℕ) (p : ℕ) → refused (beginRelease p) b �
 unfolding refused refusals unfound read
 release-refused b p = refl
 
-abbrev pub step-asks : List ℕ → ℕ → List (Bool × ℕ)
-step-asks b p =
-    (rests (read b) p, 4)
-    ∷ (admits (stepOf (next size) (read b) p .answer .event) && leb capacity (length (read b .log)), 5)
-    ∷ []
+abbrev pub overfull : List ℕ → ℕ → Bool
+overfull b p = admits (stepOf (next size) (read b) p .answer .event) && leb capacity (length (read b .log))
+
+abbrev step-asks : List ℕ → ℕ → List (Bool × ℕ)
+step-asks b p = (rests (read b) p, 4) ∷ (overfull b p, 5) ∷ []
 
 pub step-refused : (b : List ℕ) (p : ℕ) → refused (step p) b ≡ unfound b p 2 ++ step-asks b p
 unfolding refused refusals unfound read
@@ -89,28 +89,25 @@ module _ (b : List ℕ) (m : Module) (is : IsModule b m) where
   unfolding given refusing answered after
   releases h put-is = accepts (beginRelease p) b (release-given ∙ simp (stage-is, h)) refl put-is
 
-  -- take a step
+-- take a step
+module _ (b : List ℕ) (p : ℕ) (is : IsNumber b p) where
   step-given : given (refused (step p) b) ≡ given (step-asks b p)
-  step-given = asked (step p) (step-asks b p) (step-refused b p)
+  step-given = found (step p) b p (step-asks b p) (step-refused b p) (is .0) (is .1) (is .2)
 
   -- at 0 and 13 there is none
-  rests-is : (t : Bool) → (eqb (m .me .stage) 0 || eqb (m .me .stage) 13) ≡ t → rests (read b) p ≡ t
-  rests-is t e = ap (λ (k : ℕ). eqb k 0 || eqb k 13) stage-is ∙ e
-
-  pub no-step : (eqb (m .me .stage) 0 || eqb (m .me .stage) 13) ≡ true → Does (step p) b (Refused 4) b
+  pub no-step : rests (read b) p ≡ true → Does (step p) b (Refused 4) b
   unfolding given refusing
-  no-step e = refuses (step p) b 4 (step-given ∙ simp (rests-is true e))
+  no-step e = refuses (step p) b 4 (step-given ∙ simp e)
 
-  module _ (l : Looked) (looks : Looks b m l) (moves : (eqb (m .me .stage) 0 || eqb (m .me .stage) 13) ≡ false) where
-    past-stage : (t : Bool) → (admits (l .stepped .answer .event) && leb capacity (m .frame .held)) ≡ t → given (refused (step p) b) ≡ given ((t, 5) ∷ [])
+  module _ (moves : rests (read b) p ≡ false) where
+    pub full : overfull b p ≡ true → Does (step p) b (Refused 5) b
     unfolding given refusing
-    past-stage t e =
-        step-given ∙ simp (rests-is false moves, ← looks .stepped-is, entries b (m .frame) (is .framed), e)
+    full e = refuses (step p) b 5 (step-given ∙ simp (moves, e))
 
-    pub full : (admits (l .stepped .answer .event) && leb capacity (m .frame .held)) ≡ true → Does (step p) b (Refused 5) b
-    unfolding given refusing
-    full e = refuses (step p) b 5 (past-stage true e)
-
-    pub stepped : {b′ : List ℕ} → (admits (l .stepped .answer .event) && leb capacity (m .frame .held)) ≡ false → b′ ≡ put (afterStep (next size) (read b) p) b → Does (step p) b (Answered (l .stepped .answer)) b′
+    pub steps : {b′ : List ℕ} (a : Answer) → overfull b p ≡ false → a ≡ stepOf (next size) (read b) p .answer → b′ ≡ put (afterStep (next size) (read b) p) b → Does (step p) b (Answered a) b′
     unfolding given refusing answered after
-    stepped e put-is = accepts (step p) b (past-stage false e) (ap (λ (s : Stepped). Answered (s .answer)) (looks .stepped-is)) put-is
+    steps a e says put-is = accepts (step p) b (step-given ∙ simp (moves, e)) (ap Answered says) put-is
+
+-- whether it would overfill the log, by what it looks at
+pub overfull-is : (b : List ℕ) (m : Module) (l : Looked) → Looks b m l → overfull b (m .number) ≡ (admits (l .stepped .answer .event) && leb capacity (m .frame .held))
+overfull-is b m l looks = simp (looks .stepped-is, entries b (m .frame) (looks .is .framed))

@@ -54,10 +54,10 @@ module _ (t : Table) (b : List ℕ) (room : Room t b) {b₁ b₂ : List ℕ} (so
 
 -- a sound image is the image of its table
 module _ (b : List ℕ) (is : sound b ≡ true) (bytes : (i : ℕ) → byte b i < 256) where
-  at-first : b ≡ put (read b) b
+  pub at-first : b ≡ put (read b) b
   at-first = sym (put-read b (written b is) bytes)
 
-  room : Room (read b) b
+  pub room : Room (read b) b
   unfolding read
   room = record { fits = written b is .fits; held = omega (arith, length-held b (written b is .fits) (written b is .heldFits), written b is .heldFits) }
 

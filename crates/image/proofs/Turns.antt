@@ -1,6 +1,6 @@
 -- The search for the module whose turn is next. Assumes nothing.
 use Prim.Native.Nat.{ℕ, suc, _+_, _-_, _*_, _≤_, _<_}
-use mathlib.Core.Path.{_≡_, refl, sym, _∙_, ap, ap₂, subst, subst⁻¹, subst₂}
+use mathlib.Core.Path.{_≡_, refl, sym, _∙_, ap, ap₂, subst, subst⁻¹}
 use mathlib.Core.Bool.{Bool, true, false, cond, not, _||_}
 use mathlib.Core.List.{List, [], _∷_, _++_}
 use mathlib.Core.Option.{Option, none, some}
@@ -10,7 +10,6 @@ use lib.Dec.{eqb}
 use Rattle.stage.proofs.Around.{first-known}
 use Rattle.stage.specs.Answers.{answerOf}
 use Rattle.stage.specs.Calls.{step, refusing, rests}
-use Rattle.stage.specs.Table.{Table}
 use Rattle.stage.specs.Turns.{from, around, firstThat, nextAfter}
 use Rattle.stage.specs.declared.Event.the-variants.{Nobody}
 use Rattle.stage.specs.declared.Private.{Private}
@@ -23,10 +22,9 @@ use Rattle.image.specs.declared.Turned.{Turned}
 use Rattle.image.specs.declared.Next.{Next}
 use Rattle.image.specs.declared.Next.the-variants as next
 use Rattle.image.specs.Call.{Does}
-use Rattle.image.specs.Inside.{Framed, IsNumber, given, unfound, firstAble, choice, Tells}
-use Rattle.image.specs.Turn.{Turn, refused, found, turnOf, moved, Gives, GivesTurn, Advances}
-use Rattle.image.proofs.Named.{step-asks, step-refused}
-use Rattle.image.proofs.Refusals.{chosen, in-range, not-found}
+use Rattle.image.specs.Inside.{Framed, IsNumber, given, unfound, firstAble, Tells}
+use Rattle.image.specs.Turn.{Turn, refused, found, turnOf, moved, Gives, GivesTurn}
+use Rattle.image.proofs.Refusals.{chosen, in-range}
 
 -- one of the numbers from q to the one before `end` on
 module _ (f : ℕ → Bool) (q end : ℕ) where
@@ -94,47 +92,32 @@ module _ (b : List ℕ) (f : Frame) (m : ℕ) (framed : Framed b f) where
   pub is-before : (r r′ : Next) → Tells after r → r ≡ next.Nobody → Tells before r′ → Tells (nextAfter (read b) m) r′
   is-before r r′ tells e = subst⁻¹ (λ (o : Option ℕ). Tells o r′) (next-is ∙ ap (λ (o : Option ℕ). orElse o before) (subst (Tells after) e tells))
 
-pub chose-next : (onward : Bool) (t : Table) (m : ℕ) (r : Next) → onward ≡ true → Tells (nextAfter t m) r → Tells (choice onward t m) r
-chose-next onward t m r e tells = subst⁻¹ (λ (x : Bool). Tells (choice x t m) r) e tells
-
--- what was told of a search, where its number i is p
-module _ (b : List ℕ) (onward : Bool) (i p : ℕ) (same : i ≡ p) (r : Next) (tells : Tells (choice onward (read b) i) r) where
-  pub told : (r′ : Next) → r ≡ r′ → Tells (choice onward (read b) p) r′
-  told r′ e = subst₂ (λ (k : ℕ) (x : Next). Tells (choice onward (read b) k) x) same e tells
+pub marked : (b : List ℕ) (q m : ℕ) (r : Reply) (b′ : List ℕ) (m′ : ℕ) → q ≡ m → GivesTurn b q r b′ m′ → GivesTurn b m r b′ m′
+marked b q m r b′ m′ = subst (λ (k : ℕ). GivesTurn b k r b′ m′)
 
 -- a turn, by what was found
 module _ (b : List ℕ) (m : ℕ) where
-  no-turn : (k : ℕ) → given (unfound b m 10) ≡ some k → GivesTurn b m (Refused k) b m
+  pub no-turn : (k : ℕ) → given (unfound b m 10) ≡ some k → GivesTurn b m (Refused k) b m
   unfolding turnOf unfound read
   no-turn k g = subst⁻¹ (λ (t : Turn). Gives t b m (Refused k) b m) (chosen refused (found (nextAfter (read b) m)) (unfound b m 10) (some k) g) (refl, refl, refl)
-
-  -- a step of m itself, or a turn
-  pub not-advanced : (onward : Bool) (unknown k : ℕ) → unknown ≡ cond onward 10 2 → given (unfound b m unknown) ≡ some k → Advances onward b m (Refused k) b m
-  not-advanced false unknown k e g = (not-found (step m) b m (step-asks b m) (step-refused b m) k (ap (λ (u : ℕ). given (unfound b m u)) (sym e) ∙ g), refl)
-  not-advanced true unknown k e g = no-turn k (ap (λ (u : ℕ). given (unfound b m u)) (sym e) ∙ g)
 
   module _ (is : IsNumber b m) where
     turn-is : (o : Option ℕ) → nextAfter (read b) m ≡ o → turnOf b m ≡ found o
     unfolding turnOf refusing read
     turn-is o e = let z : turnOf b m ≡ found (nextAfter (read b) m) = simp (is .0, in-range 1 (modules b) m (is .1) (is .2)) in z ∙ ap found e
 
-    pub choice-known : (onward : Bool) (q : ℕ) → choice onward (read b) m ≡ some q → IsNumber b q
+    pub is-known : (r : Next) (p : ℕ) → Tells (nextAfter (read b) m) r → r ≡ next.Module p → IsNumber b p
     unfolding nextAfter read
-    choice-known false q e = let same : m ≡ q = cc in subst (IsNumber b) same is
-    choice-known true q e = let known = first-known (λ i. not (rests (read b) i)) (modules b) m (is .2) q e in (is .0, known .0, known .1)
+    is-known r p tells e = let known = first-known (λ q. not (rests (read b) q)) (modules b) m (is .2) p (subst (Tells (nextAfter (read b) m)) e tells) in (is .0, known .0, known .1)
 
-    pub nobody-advances : (onward : Bool) → choice onward (read b) m ≡ none → Advances onward b m (Answered (answerOf Nobody)) b m
-    nobody-advances false e = absurd (let z : _≡_ {A = ℕ} 0 1 = cc in omega arith)
-    nobody-advances true e = subst⁻¹ (λ (t : Turn). Gives t b m (Answered (answerOf Nobody)) b m) (turn-is none e) (refl, refl, refl)
+    pub nobody-steps : (r : Next) → Tells (nextAfter (read b) m) r → r ≡ next.Nobody → GivesTurn b m (Answered (answerOf Nobody)) b m
+    nobody-steps r tells e =
+        subst⁻¹ (λ (t : Turn). Gives t b m (Answered (answerOf Nobody)) b m) (turn-is none (subst (Tells (nextAfter (read b) m)) e tells)) (refl, refl, refl)
 
-    pub advances : (onward : Bool) (q : ℕ) (r : Reply) (b′ : List ℕ) (x : Turned) → choice onward (read b) m ≡ some q → Does (step q) b r b′
-        → (x .reply ≡ r) × (x .last ≡ moved q m r) → Advances onward b m (x .reply) b′ (x .last)
-    advances false q r b′ x e does to =
-        let same : m ≡ q = cc in (subst₂ (λ (j : ℕ) (z : Reply). Does (step j) b z b′) (sym same) (sym (to .0)) does, to .1 ∙ stays r same)
-      where
-        stays : (z : Reply) → m ≡ q → moved q m z ≡ m
-        stays (Refused k) same = refl
-        stays (Answered a) same = sym same
-    advances true q r b′ x e does to =
-        subst⁻¹ (λ (t : Turn). Gives t b m (x .reply) b′ (x .last)) (turn-is (some q) e)
-        (subst⁻¹ (λ (z : Reply). Does (step q) b z b′) (to .0) does, to .1 ∙ ap (moved q m) (sym (to .0)))
+    pub steps : {r : Reply} {b′ : List ℕ} (x : Turned) (n : Next) (p : ℕ) → Tells (nextAfter (read b) m) n → n ≡ next.Module p → Does (step p) b r b′
+        → (x .reply ≡ r) × (x .last ≡ moved p m r) → GivesTurn b m (x .reply) b′ (x .last)
+    steps {r} {b′} x n p tells e does to =
+        subst⁻¹ (λ (t : Turn). Gives t b m (x .reply) b′ (x .last)) (turn-is (some p) (subst (Tells (nextAfter (read b) m)) e tells)) (
+          subst⁻¹ (λ (z : Reply). Does (step p) b z b′) (to .0) does,
+          to .1 ∙ ap (moved p m) (sym (to .0)),
+        )

@@ -1,20 +1,26 @@
 -- What the private functions of this crate say of what they hand one another. No public contract cites this file.
 use mathlib.Core.Path.{_≡_}
-use mathlib.Core.Bool.{Bool, true, false, not}
+use mathlib.Core.Bool.{Bool, true, cond, not}
 use mathlib.Core.List.{List, [], _∷_}
 use mathlib.Core.Option.{Option, none, some}
-use Prim.Native.Nat.{ℕ, _≤_}
+use Prim.Native.Nat.{ℕ, _%_, _≤_}
+use lib.Dec.{eqb}
 use lib.ListN.{length, set}
 use Rattle.link.specs.Count as Count
 use Rattle.link.specs.Count.{size}
-use Rattle.stage.specs.Calls.{within, capacity, refusing, rests}
+use Rattle.stage.specs.Answers.{answerOf}
+use Rattle.stage.specs.Calls.{step, within, capacity, refusing, rests}
 use Rattle.stage.specs.Rows.{looksAt}
-use Rattle.stage.specs.Table.{Table, stepOf}
-use Rattle.stage.specs.Turns.{from, firstThat, nextAfter}
+use Rattle.stage.specs.Table.{stepOf}
+use Rattle.stage.specs.Turns.{from, firstThat}
+use Rattle.stage.specs.declared.Event.the-variants.{Done, Waiting, Admitted, Joined, Left, Finished}
+use Rattle.stage.specs.declared.Reply.{Reply}
+use Rattle.stage.specs.declared.Reply.the-variants.{Refused, Answered}
 use Rattle.layout.specs.Layout.{lengthFor, trailerAt, modules, logAt, firstAt, recordAt, held, read}
 use Rattle.layout.proofs.Stores.{puts}
 use Rattle.layout.proofs.Changes.{privateBytes, sharedBytes}
 use Rattle.soundness.specs.SoundImage.{sound}
+use Rattle.image.specs.Call.{Does}
 use Rattle.image.specs.declared.Frame.{Frame}
 use Rattle.image.specs.declared.Module.{Module}
 use Rattle.image.specs.declared.Found.{Found}
@@ -63,11 +69,6 @@ Finds b p unknown (found.Number q) = IsNumber b q × (q ≡ p)
 abbrev pub firstAble : List ℕ → ℕ → ℕ → Option ℕ
 firstAble b p k = firstThat (λ q. not (rests (read b) q)) (from p k)
 
--- who is to step: p itself, or whoever is next after p
-abbrev pub choice : Bool → Table → ℕ → Option ℕ
-choice false t p = some p
-choice true t p = nextAfter t p
-
 -- a module or none, as the code has it
 abbrev pub Tells : Option ℕ → Next → Type 0
 Tells o next.Nobody = o ≡ none
@@ -85,3 +86,17 @@ pub record Looks (b : List ℕ) (m : Module) (l : Looked) : Type 0 where
 unfoldable pub partsPut : List ℕ → Module → Looked → List ℕ
 partsPut b m l =
     set (puts (puts b (m .at) (privateBytes (l .stepped .me))) (l .at) (sharedBytes (l .stepped .its))) (m .frame .trailer) (l .stepped .lock)
+
+-- What the step of module p says, from one number: its answer's, or one that has its refusal's in the lower half of a byte.
+unfoldable pub replied : ℕ → ℕ → Reply
+replied p said =
+    cond (eqb said 0) (Answered (answerOf Done))
+    (cond (eqb said 1) (Answered (answerOf Waiting))
+    (cond (eqb said 2) (Answered (answerOf (Admitted p)))
+    (cond (eqb said 3) (Answered (answerOf Joined))
+    (cond (eqb said 4) (Answered (answerOf Left))
+    (cond (eqb said 5) (Answered (answerOf Finished))
+    (Refused (said % 16)))))))
+
+abbrev pub Says : ℕ → List ℕ → ℕ → List ℕ → Type 0
+Says p b said b′ = Does (step p) b (replied p said) b′

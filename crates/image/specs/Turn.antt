@@ -1,7 +1,7 @@
 -- A turn on an image, with the marker m. Document 02, R-2.
 use Prim.Native.Nat.{ℕ}
 use mathlib.Core.Path.{_≡_}
-use mathlib.Core.Bool.{Bool, true, false, not}
+use mathlib.Core.Bool.{not}
 use mathlib.Core.List.{List, [], _∷_}
 use mathlib.Core.Option.{Option, none, some}
 use Rattle.stage.specs.Answers.{answerOf}
@@ -43,8 +43,3 @@ Gives (stepBy p) b m r b′ m′ = Does (step p) b r b′ × (m′ ≡ moved p m
 
 abbrev pub GivesTurn : (b : List ℕ) (m : ℕ) (r : Reply) (b′ : List ℕ) (m′ : ℕ) → Type 0
 GivesTurn b m = Gives (turnOf b m) b m
-
--- a step of p itself, or a turn after p
-abbrev pub Advances : Bool → (b : List ℕ) (p : ℕ) (r : Reply) (b′ : List ℕ) (p′ : ℕ) → Type 0
-Advances false b p r b′ p′ = Does (step p) b r b′ × (p′ ≡ p)
-Advances true b p r b′ p′ = GivesTurn b p r b′ p′

@@ -11,7 +11,7 @@ use stage::Reply;
 use stage::Shared;
 use stage::Stepped;
 ghost use mathlib.Core.Path.{_≡_};
-ghost use mathlib.Core.Bool.{true, false, cond, _&&_, _||_};
+ghost use mathlib.Core.Bool.{true, false, _&&_, _||_};
 ghost use mathlib.Core.List.{[], _++_};
 ghost use Prim.Native.Nat.{_+_, _-_, _*_, _^_, _≤_, _<_};
 ghost use lib.Dec.{eqb, leb};
@@ -22,14 +22,15 @@ ghost use Rattle.stage.specs.Calls as Calls;
 ghost use Rattle.stage.specs.Calls.{setUp, beginAcquisition, beginRelease, takeLog, admits, capacity};
 ghost use Rattle.stage.specs.Table.{idle, untouched, freshTable, afterStep, logTaken};
 ghost use Rattle.stage.specs.Turns.{nextAfter};
-ghost use Rattle.layout.specs.Layout.{lengthFor, two, privateAt, sharedAt, read, recordOf, recordsOf, logOf, trailerOf, put};
+ghost use Rattle.layout.specs.Layout.{lengthFor, byte, two, recordAt, privateAt, sharedAt, read, recordOf, recordsOf, logOf, trailerOf, put};
 ghost use Rattle.layout.proofs.Stores.{puts};
-ghost use Rattle.layout.proofs.Changes.{privateBytes, sharedBytes, lengthBytes};
+ghost use Rattle.layout.proofs.Changes.{privateBytes, sharedBytes, lengthBytes, wPlace, linkPlace};
 ghost use Rattle.soundness.specs.SoundImage.{sound};
 ghost use Rattle.image.specs.Call.{Does, buffer, lockWord};
-ghost use Rattle.image.specs.Inside.{Framed, IsNumber, IsModule, Finds, firstAble, choice, Tells, Looks, partsPut};
+ghost use Rattle.image.specs.Inside as Inside;
+ghost use Rattle.image.specs.Inside.{Framed, IsNumber, IsModule, Finds, firstAble, Tells, Looks, partsPut, Says};
 ghost use Rattle.image.specs.Turn as Turn;
-ghost use Rattle.image.specs.Turn.{GivesTurn, Advances};
+ghost use Rattle.image.specs.Turn.{GivesTurn};
 
 // Where the parts of a sound image lie: its n, the places of record 1, of the log and of the trailer, and how many entries are held.
 struct Frame {
@@ -556,6 +557,21 @@ fn moved(p: u8, last: u32, reply: Reply) -> Turned
     }
 }
 
+// A turn where the marker names a module.
+fn turn_after(image: &mut [u8], last: u8) -> Turned
+    requires { ⌜ IsNumber (now image) last ⌝ }
+    ensures { λ r. ⌜ GivesTurn (now (image .entry)) last (r .reply) (now (image .exit)) (r .last) ⌝ }
+{
+    let next = next_after(image, last);
+    match next {
+        Next::Nobody => Turned {
+            reply: Reply::Answered(Answer::NOBODY),
+            last: last as u32,
+        },
+        Next::Module(p) => moved(p, last as u32, replied(p, step_of(image, p))),
+    }
+}
+
 // The lock word of an image, or 0 where it is unsound. It is no call, and changes nothing.
 pub fn lock_word(image: &[u8]) -> u8
     ensures { λ r. ⌜ r ≡ lockWord (now (image .entry)) ⌝ }
@@ -633,16 +649,7 @@ pub fn turn(image: &mut [u8], last: u32) -> Turned
             reply: Reply::Refused(k),
             last,
         },
-        Found::Number(number) => {
-            let who = next_after(image, number);
-            match who {
-                Next::Nobody => Turned {
-                    reply: Reply::Answered(Answer::NOBODY),
-                    last,
-                },
-                Next::Module(p) => moved(p, last, replied(p, step_of(image, p))),
-            }
-        }
+        Found::Number(number) => turn_after(image, number),
     }
 }
 

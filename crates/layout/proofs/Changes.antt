@@ -3,18 +3,22 @@
 use mathlib.Core.Path.{_≡_, refl, sym, _∙_, ap, ap₂, subst}
 use mathlib.Core.List.{List, [], _∷_, _++_}
 use Prim.Native.Nat.{ℕ, zero, suc, _+_, _-_, _*_, _/_, _%_, _≤_, _<_}
-use native.Mathlib.Nat.{add-zero}
+use native.Mathlib.Nat.{add-zero, add-assoc}
 use native.Mathlib.Decide.{ℕ-discrete}
 use native.Mathlib.Omega.{arith}
 use lib.Dec.{T}
 use lib.ListN.{length, set, take, replicate, length-append, length-replicate}
 use lib.Seq.{length-take-le, take-all, append-snoc, set-append-seam, paste}
+use Rattle.link.specs.InPlace.{linkAt, linkPut}
+use Rattle.link.specs.declared.Link.{Link}
+use Rattle.link.specs.declared.Place.{Place}
 use Rattle.stage.specs.Calls.{capacity}
+use Rattle.stage.specs.Rows.{goes, withW, withLink}
 use Rattle.stage.specs.Table.{Table, upd}
 use Rattle.stage.specs.declared.Private.{Private}
 use Rattle.stage.specs.declared.Shared.{Shared}
 use Rattle.stage.proofs.Update.{upd-same, upd-other}
-use Rattle.layout.specs.Layout.{lengthFor, recordOf, recordsOf, logOf, trailerOf, write, put}
+use Rattle.layout.specs.Layout.{lengthFor, byte, two, privateAt, sharedAt, recordOf, recordsOf, logOf, trailerOf, write, put}
 use Rattle.layout.proofs.Stores.{Offsets, puts, under, puts-left, puts-right, puts-first, puts-second, puts-third, paste-second}
 
 -- a table with one part changed
@@ -52,6 +56,38 @@ sharedBytes its =
     ∷ (12, its .priority)
     ∷ (13, its .locked)
     ∷ []
+
+-- a link of a record in place: by the places in the record of its pointer and of its count
+abbrev pub linkIn : ℕ → ℕ → ℕ → Place
+linkIn pointer count at = record { pointer = at + pointer; count = at + count }
+
+abbrev pub wPlace : ℕ → Place
+wPlace = linkIn 3 6
+
+abbrev pub linkPlace : ℕ → Place
+linkPlace = linkIn 8 10
+
+abbrev linkBytes : ℕ → ℕ → Link → Offsets → Offsets
+linkBytes pointer count l es = (pointer, l .pointer) ∷ (pointer + 1, l .mark) ∷ (count, l .count / 256) ∷ (count + 1, l .count % 256) ∷ es
+
+link-stored : (pointer count : ℕ) (b : List ℕ) (at : ℕ) (l : Link) (es : Offsets) → puts b at (linkBytes pointer count l es) ≡ puts (linkPut b (linkIn pointer count at) l) at es
+unfolding linkPut
+link-stored pointer count b at l es =
+    ap₂ (λ (i j : ℕ). puts (set (set (set (set b (at + pointer) (l .pointer)) i (l .mark)) (at + count) (l .count / 256)) j (l .count % 256)) at es)
+    (sym (add-assoc at pointer 1)) (sym (add-assoc at count 1))
+
+link-there : (pointer count : ℕ) (b : List ℕ) (at : ℕ)
+    → linkAt b (linkIn pointer count at) ≡ record { pointer = byte b (at + pointer); mark = byte b (at + (pointer + 1)); count = two b (at + count) }
+unfolding linkAt two
+link-there pointer count b at = ap (λ (i : ℕ). record { pointer = byte b (at + pointer); mark = byte b i; count = two b (at + count) }) (add-assoc at pointer 1)
+
+pub w-there : (b : List ℕ) (at : ℕ) → linkAt b (wPlace at) ≡ privateAt b at .w
+unfolding privateAt
+w-there b at = link-there 3 6 b at
+
+pub its-there : (b : List ℕ) (at : ℕ) → linkAt b (linkPlace at) ≡ sharedAt b at .link
+unfolding sharedAt
+its-there b at = link-there 8 10 b at
 
 -- the record of module p
 abbrev pub recordIn : Table → ℕ → List ℕ
@@ -139,25 +175,52 @@ module _ (t : Table) (b : List ℕ) (room : Room t b) where
       ∙ sym (puts-first (before t b) (recordsOf (t .n) t) (logOf (t .log)) (trailerOf t) (16 * (p - 1)) 16 es (s .inside) (omega (arith, length-records (t .n) t)))
       ∙ ap (λ (k : ℕ). puts (put t b) (k + 16 * (p - 1)) es) (length-before t b room)
 
-  pub put-private : (p : ℕ) (me : Private) → 1 ≤ p → p ≤ t .n → put (withPrivate t p me) b ≡ puts (put t b) (placeIn t b p) (privateBytes me)
-  unfolding recordOf
-  put-private p me =
-      record-stored (upd (t .private) p me) (t .shared) p (privateBytes me)
+  -- some bytes of a private, and of a shared part
+  private-stored : (p : ℕ) (me : Private) (es : Offsets) → recordOf me (t .shared p) ≡ puts (recordIn t p) 0 es → T (under 16 es) → 1 ≤ p → p ≤ t .n →
+      put (withPrivate t p me) b ≡ puts (put t b) (placeIn t b p) es
+  private-stored p me es here inside =
+      record-stored (upd (t .private) p me) (t .shared) p es
       (record {
         others = λ q ne. ap (λ (x : Private). recordOf x (t .shared q)) (upd-other (t .private) p me q ne);
-        here = ap (λ (x : Private). recordOf x (t .shared p)) (upd-same (t .private) p me);
-        inside = tt;
+        here = ap (λ (x : Private). recordOf x (t .shared p)) (upd-same (t .private) p me) ∙ here;
+        inside = inside;
       })
+
+  shared-stored : (p : ℕ) (its : Shared) (es : Offsets) → recordOf (t .private p) its ≡ puts (recordIn t p) 0 es → T (under 16 es) → 1 ≤ p → p ≤ t .n →
+      put (withShared t p its) b ≡ puts (put t b) (placeIn t b p) es
+  shared-stored p its es here inside =
+      record-stored (t .private) (upd (t .shared) p its) p es
+      (record {
+        others = λ q ne. ap (recordOf (t .private q)) (upd-other (t .shared) p its q ne);
+        here = ap (recordOf (t .private p)) (upd-same (t .shared) p its) ∙ here;
+        inside = inside;
+      })
+
+  -- all of them
+  pub put-private : (p : ℕ) (me : Private) → 1 ≤ p → p ≤ t .n → put (withPrivate t p me) b ≡ puts (put t b) (placeIn t b p) (privateBytes me)
+  unfolding recordOf
+  put-private p me = private-stored p me (privateBytes me) refl tt
 
   pub put-shared : (p : ℕ) (its : Shared) → 1 ≤ p → p ≤ t .n → put (withShared t p its) b ≡ puts (put t b) (placeIn t b p) (sharedBytes its)
   unfolding recordOf
-  put-shared p its =
-      record-stored (t .private) (upd (t .shared) p its) p (sharedBytes its)
-      (record {
-        others = λ q ne. ap (recordOf (t .private q)) (upd-other (t .shared) p its q ne);
-        here = ap (recordOf (t .private p)) (upd-same (t .shared) p its);
-        inside = tt;
-      })
+  put-shared p its = shared-stored p its (sharedBytes its) refl tt
+
+  -- the stage; the link; w and then the stage
+  pub put-stage : (p k : ℕ) → 1 ≤ p → p ≤ t .n → put (withPrivate t p (goes k (t .private p))) b ≡ set (put t b) (placeIn t b p) k
+  unfolding recordOf
+  put-stage p k low high = private-stored p (goes k (t .private p)) ((0, k) ∷ []) refl tt low high ∙ ap (λ (i : ℕ). set (put t b) i k) (add-zero (placeIn t b p))
+
+  pub put-link : (p : ℕ) (l : Link) → 1 ≤ p → p ≤ t .n → put (withShared t p (withLink l (t .shared p))) b ≡ linkPut (put t b) (linkPlace (placeIn t b p)) l
+  unfolding recordOf
+  put-link p l low high = shared-stored p (withLink l (t .shared p)) (linkBytes 8 10 l []) refl tt low high ∙ link-stored 8 10 (put t b) (placeIn t b p) l []
+
+  pub put-w : (p k : ℕ) (l : Link) → 1 ≤ p → p ≤ t .n → put (withPrivate t p (goes k (withW l (t .private p)))) b ≡ set (linkPut (put t b) (wPlace (placeIn t b p)) l) (placeIn t b p) k
+  unfolding recordOf
+  put-w p k l low high =
+      let at = placeIn t b p in
+      private-stored p (goes k (withW l (t .private p))) (linkBytes 3 6 l ((0, k) ∷ [])) refl tt low high
+      ∙ link-stored 3 6 (put t b) at l ((0, k) ∷ [])
+      ∙ ap (λ (i : ℕ). set (linkPut (put t b) (wPlace at) l) i k) (add-zero at)
 
   -- the lock word
   pub put-lock : (k : ℕ) → put (withLock t k) b ≡ set (put t b) (length b - 12) k

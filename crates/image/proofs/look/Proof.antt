@@ -2,7 +2,7 @@
 -- Assumes nothing.
 use native.Mathlib.Omega.{arith}
 use borrow.Author.Needs.{needs}
-use Rattle.image.proofs.Modules.{seen, looks}
+use Rattle.image.proofs.Modules.{sees, looks}
 use Rattle.image.proofs.look.Statement.{statement}
 use Rattle.image.proofs.look.Tie as tie
 
@@ -10,10 +10,10 @@ looks-at-requires : tie.Need-looks-at-requires
 looks-at-requires c κs = search needs
 
 place-requires : tie.Need-place-requires
-place-requires c κs = omega (arith, seen _ _ (c .before .before .pre), c .looks-at .ensures)
+place-requires c κs = omega (arith, sees _ _ (c .before .before .pre), c .looks-at .ensures)
 
 shared-at-requires : tie.Need-shared-at-requires
-shared-at-requires c κs = omega (arith, seen _ _ (c .before .before .before .pre), c .before .looks-at .ensures)
+shared-at-requires c κs = omega (arith, sees _ _ (c .before .before .before .pre), c .before .looks-at .ensures)
 
 shared-slice-read-step : tie.Need-shared-slice-read-step
 shared-slice-read-step c = search needs

@@ -1,9 +1,9 @@
 -- `step` is the row of its stage, way by way in the order of the table; a number that is no stage is past the table.
 -- Assumes nothing.
-use mathlib.Core.Path.{_∙_, sym}
+use mathlib.Core.Path.{refl, _∙_, sym}
 use borrow.Author.Needs.{needs}
 use Rattle.stage.specs.Rows.{find, rows}
-use Rattle.row.proofs.AfterSwap.{row-done, row-failed}
+use Rattle.row.proofs.AfterSwap.{by-swap}
 use Rattle.row.proofs.AtStage.{tests, past-the-table}
 use Rattle.row.proofs.step.Statement.{statement}
 use Rattle.row.proofs.step.Tie as tie
@@ -41,10 +41,12 @@ step-spec =
     (λ c. search (tests, c .point2 .ensures))
     (λ c.
     let before = c .before .before .before in
-    row-done _ _ _ _ _ (before .before .before .before .match .keys10) _ _ (sym (before .before .before .swap .ensures) ∙ before .now .given .1) (c .before .after-swap .ensures))
+    let start = before .before .before .before .before .before .before .args in
+    sym (c .before .after-swap .ensures (start .me) (start .its) _ _) ∙ by-swap _ _ _ _ _ (before .before .before .before .match .keys10) _ (sym (before .before .before .swap .ensures) ∙ before .now .given .1))
     (λ c.
     let before = c .before .before .before in
-    row-failed _ _ _ _ _ (before .before .before .before .match .keys10) _ _ (sym (before .before .before .swap .ensures) ∙ before .found .given .1) (c .before .after-swap2 .ensures))
+    let start = before .before .before .before .before .before .before .args in
+    sym (c .before .after-swap2 .ensures (start .me) (start .its) _ _ refl) ∙ by-swap _ _ _ _ _ (before .before .before .before .match .keys10) _ (sym (before .before .before .swap .ensures) ∙ before .found .given .1))
     (λ c. search tests)
     (λ c. search tests)
     (λ c. search (tests, c .open2 .ensures))
