@@ -38,6 +38,13 @@ run_turns() { # ARCH: the program turns for machines of this kind
   if [ "$1" = "$machine" ]; then "$archives/$1/turns"; else qemu-x86_64 "$archives/$1/turns"; fi
 }
 
+frames_for() { # ARCH: the most stack that each call can take in the archive for machines of this kind, under stack.txt
+  local objdump=objdump
+  [ "$1" = "$machine" ] || objdump=x86_64-linux-gnu-objdump
+  LC_ALL=C "$objdump" -dr --no-show-raw-insn "$archives/$1/libdesk.a" |
+    run_for "$machine" frames "$1" "$root/rust/stack.txt"
+}
+
 kinds=("$machine")
 [ "$machine" = x86_64 ] || kinds+=(x86_64)
 

@@ -462,8 +462,8 @@ fn swap_of(image: &mut [u8], number: u8) -> u8
     let done = its.swap(image, w_of(at), number);
     let after = row::after_swap(done, image[at + 4]);
     image[at] = after.stage;
-    let answer = after.answer;
-    answer.number
+    let told = after.answer;
+    told.number
 }
 
 // A step at any other stage, by value. What it says, as one number.

@@ -4,16 +4,16 @@
 //! the archive through `mokroshel`, and its ratio to the plain desk, to the same with the log's rest
 //! compared as a block, and to one bare pass over the image's bytes (a comparison with a copy); then
 //! that of a turn to the step that it takes. `measure stack` prints the most stack that each call
-//! took. `measure lines N` prints N lines for `turns`.
+//! took, and a step at each stage. `measure lines N` prints N lines for `turns`.
 
 use std::hint::black_box;
 use std::process::ExitCode;
 use std::time::Instant;
 
-use cases::{Call, Rng, Stream};
+use cases::{Call, Rng};
 use compare::Lent;
 use mokroshel::{table_length, Image, Marker};
-use outside::stack::depth;
+use outside::stack;
 
 /// How many tables take turns, so that a call does not always find the same.
 const TABLES: usize = 8;
@@ -228,24 +228,51 @@ fn turns() {
     }
 }
 
-/// The most stack of each call over histories, strange and damaged images.
+/// The stage of a module, by the layout. Only of sound images, and modules that they have.
+fn stage(image: &[u8], p: u32) -> usize {
+    let end = image.len();
+    let n = usize::from(u16::from_be_bytes([image[end - 10], image[end - 9]]));
+    image[end - table_length(n) + 16 * (p as usize - 1)].into()
+}
+
+/// The most stack of each call over histories, strange and damaged images; and that of a step at
+/// each stage.
 fn stacks() {
-    let mut most = [0; NAMES.len()];
-    let mut stream = Stream::new(1);
-    let mut calls = 0;
-    while calls < 200_000 {
-        let mut case = stream.next_case();
-        let (mut image, mut lent) = (case.image.clone(), Lent::default());
-        while let Some(call) = case.next_call(&image, lent.last) {
-            lent.give(&call);
-            let took = depth(|| archive(&mut image, &mut lent, &call));
-            most[kind(&call)] = most[kind(&call)].max(took);
-            calls += 1;
+    const STAGES: usize = 20;
+    let mut by_call = [(0, 0); NAMES.len()];
+    let mut by_stage = [(0, 0); STAGES + 1];
+    stack::of_cases(200_000, |call, before, (took, word)| {
+        let note = |(most, calls): &mut (usize, usize)| {
+            *most = took.max(*most);
+            *calls += 1;
+        };
+        note(&mut by_call[kind(call)]);
+        match (call, word) {
+            (Call::Step { .. }, 0x8000_0001 | 0x8000_0002) => note(&mut by_stage[STAGES]),
+            (Call::Step { p }, _) => note(&mut by_stage[stage(before, *p)]),
+            _ => {}
         }
+    });
+    let line = |name: &str, (most, calls): (usize, usize)| {
+        println!("{name:<18} {most:>5} bytes of stack at most, of {calls} calls");
+    };
+    for (name, most) in NAMES.iter().zip(by_call) {
+        line(name, most);
     }
-    for (name, most) in NAMES.iter().zip(most) {
-        println!("{name:<18} {most:>5} bytes of stack at most, of {calls} calls of all kinds");
+    println!("step, by the stage that its module is at:");
+    for (stage, most) in by_stage[..STAGES].iter().enumerate() {
+        line(&format!("stage {stage}"), *most);
     }
+    line("unsound, no module", by_stage[STAGES]);
+    let worst = by_stage[..STAGES].iter().map(|(most, _)| *most).max();
+    let at_worst = (0..STAGES).filter(|stage| Some(by_stage[*stage].0) == worst);
+    let at_worst: Vec<_> = at_worst.map(|stage| stage.to_string()).collect();
+    println!("step at stage 9: {} bytes", by_stage[9].0);
+    println!(
+        "step at worst: {} bytes, stage {}",
+        worst.unwrap_or(0),
+        at_worst.join(" ")
+    );
 }
 
 /// Lines for `turns`: a busy table of 8, set up anew before its log is full.
