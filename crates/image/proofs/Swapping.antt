@@ -11,10 +11,10 @@ use lib.Seq.{getD-set-same, getD-set-other}
 use borrow.Author.Tests.{le-leb}
 use Rattle.laws.proofs.Said.{no-left}
 use Rattle.link.specs.Count.{next, size}
-use Rattle.link.specs.InPlace.{lies, linkAt, linkPut, left, swappedIn}
+use Rattle.inplace.specs.InPlace.{lies, linkAt, linkPut, left, swappedIn}
 use Rattle.link.specs.Operations.{swapped}
 use Rattle.link.specs.declared.Link.{Link}
-use Rattle.link.specs.declared.Place.{Place}
+use Rattle.inplace.specs.declared.Place.{Place}
 use Rattle.link.specs.declared.Swapped.{Swapped}
 use Rattle.link.specs.declared.Swapped.the-variants as swap
 use Rattle.stage.specs.Answers.{answerOf}

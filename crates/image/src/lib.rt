@@ -2,8 +2,8 @@
 //
 // 01, "What a call says", and 02, R-2. A call checks the image, refuses by the lowest number that applies (a turn by 1, 10, then 5), reads the
 // parts that it needs, and stores the bytes of the parts that it changes.
+use inplace::Place;
 use link::Link;
-use link::Place;
 use stage::Answer;
 use stage::Event;
 use stage::Private;

@@ -9,9 +9,9 @@ use native.Mathlib.Omega.{arith}
 use lib.Dec.{T}
 use lib.ListN.{length, set, take, replicate, length-append, length-replicate}
 use lib.Seq.{length-take-le, take-all, append-snoc, set-append-seam, paste}
-use Rattle.link.specs.InPlace.{linkAt, linkPut}
+use Rattle.inplace.specs.InPlace.{linkAt, linkPut}
 use Rattle.link.specs.declared.Link.{Link}
-use Rattle.link.specs.declared.Place.{Place}
+use Rattle.inplace.specs.declared.Place.{Place}
 use Rattle.stage.specs.Calls.{capacity}
 use Rattle.stage.specs.Rows.{goes, withW, withLink}
 use Rattle.stage.specs.Table.{Table, upd}

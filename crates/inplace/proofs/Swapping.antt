@@ -9,9 +9,9 @@ use lib.ListN.{length, getD, set}
 use borrow.Author.Tests.{eqb-true, eqb-false, eq-eqb, ne-eqb, le-leb, lt-leb, leb-true, leb-false}
 use Rattle.laws.proofs.Cases.{both-hold}
 use Rattle.laws.proofs.Said.{no-left, no-right, yes-then}
 use Rattle.link.specs.Operations.{OPEN, changed, same, swapped}
-use Rattle.link.specs.InPlace.{lies, linkAt, linkPut, left, swappedIn}
-use Rattle.link.specs.declared.Place.{Place}
+use Rattle.inplace.specs.InPlace.{lies, linkAt, linkPut, left, swappedIn}
+use Rattle.inplace.specs.declared.Place.{Place}
 
 -- two numbers of two bytes each are equal where both bytes are
 same-number : (a b c d : ℕ) → b < 256 → d < 256 → eqb (256 * a + b) (256 * c + d) ≡ (eqb a c && eqb b d)

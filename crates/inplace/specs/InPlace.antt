@@ -4,11 +4,11 @@ use mathlib.Core.Bool.{Bool, true, false, cond, _&&_}
 use mathlib.Core.List.{List}
 use lib.Dec.{leb}
 use lib.ListN.{length, getD, set}
 use Rattle.link.specs.Operations.{swapped}
 use Rattle.link.specs.declared.Link.{Link}
-use Rattle.link.specs.declared.Place.{Place}
+use Rattle.inplace.specs.declared.Place.{Place}
 use Rattle.link.specs.declared.Swapped.{Swapped}
 use Rattle.link.specs.declared.Swapped.the-variants.{Done, Failed}
 
 -- whether a link at this place lies within so many bytes
 unfoldable pub lies : Place → ℕ → Bool

@@ -1,9 +1,9 @@
 -- `lies` asks of both places whether two bytes are left there.
 -- Assumes nothing.
 use native.Mathlib.Omega.{arith}
-use Rattle.link.proofs.InPlace.{too-far, near}
-use Rattle.link.proofs.lies.Statement.{statement}
-use Rattle.link.proofs.lies.Tie as tie
+use Rattle.inplace.proofs.Swapping.{too-far, near}
+use Rattle.inplace.proofs.lies.Statement.{statement}
+use Rattle.inplace.proofs.lies.Tie as tie
 
 returns : tie.Need-returns
 returns c = too-far _ _ (omega arith)

@@ -2,10 +2,10 @@
 -- Assumes nothing.
 use native.Mathlib.Omega.{arith}
 use lib.ListN.{length-set}
-use Rattle.link.proofs.InPlace.{put-bytes}
+use Rattle.inplace.proofs.Swapping.{put-bytes}
 use borrow.Author.Needs.{needs}
-use Rattle.link.proofs.hand_back.Statement.{statement}
-use Rattle.link.proofs.hand_back.Tie as tie
+use Rattle.inplace.proofs.hand_back.Statement.{statement}
+use Rattle.inplace.proofs.hand_back.Tie as tie
 
 slice-read-pointer : tie.Need-slice-read-pointer
 slice-read-pointer c = search needs

@@ -2,11 +2,11 @@
 -- Assumes nothing.
 use native.Mathlib.Omega.{arith}
 use lib.ListN.{length-set}
 use Rattle.link.specs.Operations.{changed}
-use Rattle.link.specs.InPlace.{linkAt, linkPut}
+use Rattle.inplace.specs.InPlace.{linkAt, linkPut}
 use borrow.Author.Needs.{needs}
-use Rattle.link.proofs.change_in_place.Statement.{statement}
-use Rattle.link.proofs.change_in_place.Tie as tie
+use Rattle.inplace.proofs.change_in_place.Statement.{statement}
+use Rattle.inplace.proofs.change_in_place.Tie as tie
 
 slice-read-wide : tie.Need-slice-read-wide
 slice-read-wide c = search needs

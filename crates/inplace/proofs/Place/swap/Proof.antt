@@ -2,9 +2,9 @@
 -- Assumes nothing.
 use borrow.Author.Needs.{needs}
 use Rattle.laws.proofs.Said.{said-no, said-yes}
-use Rattle.link.proofs.InPlace.{within, not-here, not-there, failed, done}
-use Rattle.link.proofs.Place.swap.Statement.{statement}
-use Rattle.link.proofs.Place.swap.Tie as tie
+use Rattle.inplace.proofs.Swapping.{within, not-here, not-there, failed, done}
+use Rattle.inplace.proofs.Place.swap.Statement.{statement}
+use Rattle.inplace.proofs.Place.swap.Tie as tie
 
 lies-requires : tie.Need-lies-requires
 lies-requires c κs = search needs

@@ -2,9 +2,9 @@
 -- Assumes nothing.
 use borrow.Author.Needs.{needs}
 use Rattle.laws.proofs.Said.{said}
-use Rattle.link.proofs.InPlace.{by-bytes}
-use Rattle.link.proofs.same_in_place.Statement.{statement}
-use Rattle.link.proofs.same_in_place.Tie as tie
+use Rattle.inplace.proofs.Swapping.{by-bytes}
+use Rattle.inplace.proofs.same_in_place.Statement.{statement}
+use Rattle.inplace.proofs.same_in_place.Tie as tie
 
 shared-slice-read-if1 : tie.Need-shared-slice-read-if1
 shared-slice-read-if1 c = search needs
