@@ -87,7 +87,7 @@ module _ (b : List ℕ) (m : Module) (is : IsModule b m) (bytes : (i : ℕ) → 
       (its-is ∙ ap (λ (x : Shared). withPriority r x) (old-is ∙ ap (sharedAt b) (is .at-is) ∙ sym (shared-read b (m .number) (is .least) (is .most))))
 
 -- a step that admits nobody keeps the log
-kept : (log : List ℕ) (e : Event) → admits e ≡ false → logged log e ≡ log
+pub kept : (log : List ℕ) (e : Event) → admits e ≡ false → logged log e ≡ log
 unfolding logged
 kept log Done no·e = refl
 kept log Waiting no·e = refl

@@ -22,6 +22,7 @@ use Rattle.stage.specs.Calls.{admits}
 use Rattle.stage.specs.Rows.{goes, withW, withLink, after9, find, rows, looked, looksAt, stepped}
 use Rattle.stage.specs.Table.{Table, upd, stepOf, logged, afterStep}
 use Rattle.stage.specs.declared.Answer.{Answer}
+use Rattle.stage.specs.declared.Event.{Event}
 use Rattle.stage.specs.declared.Event.the-variants.{Done, Joined}
 use Rattle.stage.specs.declared.Private.{Private}
 use Rattle.stage.specs.declared.Shared.{Shared}
@@ -31,14 +32,14 @@ use Rattle.row.specs.AfterSwap.{Follows}
 use Rattle.row.specs.declared.After.{After}
 use Rattle.row.proofs.AfterSwap.{by-swap}
 use Rattle.layout.specs.Layout.{byte, lengthFor, modules, recordAt, privateAt, read, put}
-use Rattle.layout.proofs.Changes.{withPrivate, withShared, wPlace, linkPlace, w-there, its-there, put-stage, put-w, put-link}
+use Rattle.layout.proofs.Changes.{withShared, wPlace, linkPlace, w-there, its-there, put-stage, put-w, put-link}
 use Rattle.layout.proofs.Rewritten.{private-read, shared-read}
 use Rattle.image.specs.Inside.{IsNumber, Says}
 use Rattle.image.proofs.Modules.{seen}
 use Rattle.image.proofs.Named.{steps}
 use Rattle.image.proofs.Replies.{answer-said, by-reply}
 use Rattle.image.proofs.Sound.{written}
-use Rattle.image.proofs.Stored.{at-first, room}
+use Rattle.image.proofs.Stored.{at-first, room, kept}
 
 -- the mark of a link that was put at a place, where its count lies elsewhere
 mark-put : (b : List ℕ) (l : Place) (x : Link) → l .pointer + 2 ≤ length b → l .pointer + 1 < l .count → byte (linkPut b l x) (l .pointer + 1) ≡ x .mark
@@ -120,45 +121,42 @@ module _ (b : List ℕ) (p : ℕ) (is : IsNumber b p) (nine : byte b (recordAt b
     quiet : admits (a .answer .event) ≡ false
     leaves-it : b′ ≡ put (afterStep (next size) (read b) p) b
 
+  -- both ways leave a private and a shared part, and log nothing
+  leaving : (a : After) {b₂ : List ℕ} (me′ : Private) (its′ : Shared) (e : Event) → admits e ≡ false → after9 me its (t .lock) swap-is ≡ record { me = me′; its = its′; lock = t .lock; answer = a .answer } → a .answer ≡ answerOf e
+      → b₂ ≡ put (record { n = t .n; private = upd (t .private) p me′; shared = upd (t .shared) (me .prev) its′; lock = t .lock; log = t .log }) b → Took a b₂
+  unfolding afterStep
+  leaving a me′ its′ e none row-is says put-is =
+      let s : stepOf (next size) t p ≡ record { me = me′; its = its′; lock = t .lock; answer = a .answer } = step-is ∙ row-is in
+      let kept-log : t .log ≡ logged (t .log) (a .answer .event) = sym (kept (t .log) e none) ∙ ap (λ (x : Answer). logged (t .log) (x .event)) (sym says) in
+      record {
+        answer-is = ap (λ (x : Stepped). x .answer) (sym s);
+        quiet = ap (λ (x : Answer). admits (x .event)) says ∙ none;
+        leaves-it =
+            put-is
+            ∙ ap (λ (log : List ℕ). put (record { n = t .n; private = upd (t .private) p me′; shared = upd (t .shared) (me .prev) its′; lock = t .lock; log = log }) b) kept-log
+            ∙ ap₂ (λ (x : Stepped) (q : ℕ). put (table-by x q) b) (sym s) (sym looks);
+      }
+
   module _ (a : After) {b₁ b₂ : List ℕ} (stored : b₂ ≡ set b₁ (recordAt b p) (a .stage)) where
     was-done : (l : Link) → swap-is ≡ swap.Done l → b₁ ≡ linkPut b found l → Follows true (byte b₁ (wanted .pointer + 1)) a → Took a b₂
-    unfolding afterStep logged read
+    unfolding read
     was-done l e put-is follows =
-        let h = prev-known in
-        let t₁ : Table = withShared t (me .prev) (withLink l its) in
-        let s : stepOf (next size) t p ≡ record { me = goes (a .stage) me; its = withLink l its; lock = t .lock; answer = a .answer } =
-        step-is ∙ ap (after9 me its (t .lock)) e ∙ follows me its (t .lock) l in
-        let joined : a .answer ≡ answerOf Joined = ap (λ (x : Stepped). x .answer) (sym (follows me its (t .lock) l)) in
-        let b₁-is : b₁ ≡ put t₁ b =
-        put-is ∙ ap (λ (x : List ℕ). linkPut x found l) (at-first b (is .0) bytes) ∙ sym (put-link t b (room b (is .0) bytes) (me .prev) l (h .0) (h .1)) in
-        record {
-          answer-is = ap (λ (x : Stepped). x .answer) (sym s);
-          quiet = ap (λ (x : Answer). admits (x .event)) joined;
-          leaves-it =
-              stored ∙ ap (λ (x : List ℕ). set x (recordAt b p) (a .stage)) b₁-is
-              ∙ sym (put-stage t₁ b (room b (is .0) bytes) p (a .stage) (is .1) (is .2))
-              ∙ ap (λ (log : List ℕ). put (record { n = t .n; private = upd (t .private) p (goes (a .stage) me); shared = upd (t .shared) (me .prev) (withLink l its); lock = t .lock; log = log }) b)
-              (ap (λ (x : Answer). logged (t .log) (x .event)) (sym joined))
-              ∙ ap₂ (λ (x : Stepped) (q : ℕ). put (table-by x q) b) (sym s) (sym looks);
-        }
+        let row-is = follows me its (t .lock) l in
+        let linked : b₁ ≡ put (withShared t (me .prev) (withLink l its)) b =
+        put-is ∙ ap (λ (x : List ℕ). linkPut x found l) (at-first b (is .0) bytes) ∙ sym (put-link t b (room b (is .0) bytes) (me .prev) l (prev-known .0) (prev-known .1)) in
+        leaving a (goes (a .stage) me) (withLink l its) Joined refl (ap (after9 me its (t .lock)) e ∙ row-is) (ap (λ (x : Stepped). x .answer) (sym row-is))
+        (stored ∙ ap (λ (x : List ℕ). set x (recordAt b p) (a .stage)) linked
+        ∙ sym (put-stage (withShared t (me .prev) (withLink l its)) b (room b (is .0) bytes) p (a .stage) (is .1) (is .2)))
 
     was-failed : (l : Link) → swap-is ≡ swap.Failed l → b₁ ≡ linkPut b wanted l → Follows false (byte b₁ (wanted .pointer + 1)) a → Took a b₂
-    unfolding afterStep logged read
+    unfolding read
     was-failed l e put-is follows =
         let mark : l .mark ≡ byte b₁ (wanted .pointer + 1) = sym (ap (λ (x : List ℕ). byte x (wanted .pointer + 1)) put-is ∙ mark-put b wanted l (omega (arith, fits, is .1, is .2)) (omega arith)) in
-        let s : stepOf (next size) t p ≡ record { me = goes (a .stage) (withW l me); its = its; lock = t .lock; answer = a .answer } =
-        step-is ∙ ap (after9 me its (t .lock)) e ∙ follows me its (t .lock) l mark in
-        let done : a .answer ≡ answerOf Done = ap (λ (x : Stepped). x .answer) (sym (follows me its (t .lock) l mark)) in
-        record {
-          answer-is = ap (λ (x : Stepped). x .answer) (sym s);
-          quiet = ap (λ (x : Answer). admits (x .event)) done;
-          leaves-it =
-              stored ∙ ap (λ (x : List ℕ). set x (recordAt b p) (a .stage)) (put-is ∙ ap (λ (x : List ℕ). linkPut x wanted l) (at-first b (is .0) bytes))
-              ∙ sym (put-w t b (room b (is .0) bytes) p (a .stage) l (is .1) (is .2))
-              ∙ ap₂ (λ (f : ℕ → Shared) (log : List ℕ). put (record { n = t .n; private = upd (t .private) p (goes (a .stage) (withW l me)); shared = f; lock = t .lock; log = log }) b)
-              (sym (upd-kept (t .shared) (me .prev))) (ap (λ (x : Answer). logged (t .log) (x .event)) (sym done))
-              ∙ ap₂ (λ (x : Stepped) (q : ℕ). put (table-by x q) b) (sym s) (sym looks);
-        }
+        let row-is = follows me its (t .lock) l mark in
+        leaving a (goes (a .stage) (withW l me)) its Done refl (ap (after9 me its (t .lock)) e ∙ row-is) (ap (λ (x : Stepped). x .answer) (sym row-is))
+        (stored ∙ ap (λ (x : List ℕ). set x (recordAt b p) (a .stage)) (put-is ∙ ap (λ (x : List ℕ). linkPut x wanted l) (at-first b (is .0) bytes))
+        ∙ sym (put-w t b (room b (is .0) bytes) p (a .stage) l (is .1) (is .2))
+        ∙ ap (λ (f : ℕ → Shared). put (record { n = t .n; private = upd (t .private) p (goes (a .stage) (withW l me)); shared = f; lock = t .lock; log = t .log }) b) (sym (upd-kept (t .shared) (me .prev))))
 
     by-what : (s : Swapped) → swap-is ≡ s → (done : Bool) → done ≡ left s b found wanted .0 → b₁ ≡ left s b found wanted .1 → Follows done (byte b₁ (wanted .pointer + 1)) a → Took a b₂
     unfolding left

@@ -1,7 +1,7 @@
 // The five calls and the turn on an image of edition 1, and its lock word.
 //
-// 01, "What a call says", and 02, R-2. A call checks the image, refuses by the lowest number that applies (a turn by 1, 10, then 5), reads the
-// parts that it needs, and stores the bytes of the parts that it changes.
+// 01, "What a call says", and 02, R-2 and R-3. A call checks the image, refuses by the lowest number that applies (a turn by 1, 10, then 5),
+// reads the parts that it needs, and stores the bytes of the parts that it changes. A step at stage 9 swaps the links where they lie.
 use inplace::Place;
 use link::Link;
 use stage::Answer;
@@ -67,7 +67,8 @@ pub struct Turned {
     pub last: u32,
 }
 
-// A refusal's number is this much more where what a step says is one number.
+// What a step says is handed up as one number (`replied` reads it): its answer's or, in the lower half of a byte, its refusal's. A reply would
+// go through memory.
 const REFUSED: u8 = 16;
 
 // A step, before it is stored: the place of the record that it looks at, and what it leaves.
@@ -451,7 +452,7 @@ fn begin_release_of(image: &mut [u8], m: Module) -> Reply
     Reply::Answered(Answer::DONE)
 }
 
-// A step at stage 9: a swap of the links where they lie. What it says, as one number.
+// A step at stage 9, with no part copied out: a swap of prev's link and w where they lie, and then the stage.
 fn swap_of(image: &mut [u8], number: u8) -> u8
     requires { ⌜ IsNumber (now image) number × (byte (now image) (recordAt (now image) number) ≡ 9) ⌝ }
     ensures { λ r. ⌜ Says number (now (image .entry)) r (now (image .exit)) ⌝ }
@@ -466,7 +467,7 @@ fn swap_of(image: &mut [u8], number: u8) -> u8
     told.number
 }
 
-// A step at any other stage, by value. What it says, as one number.
+// A step at any other stage: its row by value.
 fn row_of(image: &mut [u8], number: u8) -> u8
     requires { ⌜ IsNumber (now image) number × (Calls.rests (read (now image)) number ≡ false) ⌝ }
     ensures { λ r. ⌜ Says number (now (image .entry)) r (now (image .exit)) ⌝ }
@@ -483,7 +484,7 @@ fn row_of(image: &mut [u8], number: u8) -> u8
     answer.number
 }
 
-// One step of a module that was found. What it says, as one number.
+// One step of a module that was found. Two functions call it, so the compiler keeps it apart, and its frame stands beside that of the check.
 fn step_of(image: &mut [u8], number: u8) -> u8
     requires { ⌜ IsNumber (now image) number ⌝ }
     ensures { λ r. ⌜ Says number (now (image .entry)) r (now (image .exit)) ⌝ }
@@ -499,7 +500,7 @@ fn step_of(image: &mut [u8], number: u8) -> u8
     row_of(image, number)
 }
 
-// What the step of a module says, from its one number.
+// What a module's step says, read out of its one number.
 fn replied(number: u8, said: u8) -> Reply
     ensures { λ r. ⌜ r ≡ Inside.replied number said ⌝ }
 {

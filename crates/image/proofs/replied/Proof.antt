@@ -1,6 +1,5 @@
 -- `replied` reads the reply out of its number, way by way.
 -- Assumes nothing.
-use mathlib.Core.Path.{ap}
 use borrow.Author.Tests.{ne-eqb}
 use Rattle.image.specs.Inside.{replied}
 use borrow.Author.Needs.{needs}

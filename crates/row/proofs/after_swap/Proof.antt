@@ -1,6 +1,5 @@
 -- `after_swap` is row 9 past its swap, way by way.
 -- Assumes nothing.
-use mathlib.Core.Path.{sym}
 use borrow.Author.Tests.{eq-eqb, ne-eqb}
 use Rattle.row.proofs.AfterSwap.{done, failed}
 use Rattle.row.proofs.after_swap.Statement.{statement}
