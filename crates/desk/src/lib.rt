@@ -41,7 +41,7 @@ fn packed(reply: Reply) -> u32
 pub extern "C" fn mokroshel_set_up(image: &mut [u8], n: u32) -> u32
     ensures { λ r. ⌜ Exports (setUp n) (now (image .entry)) r (now (image .exit)) ⌝ }
 {
-    packed(image::set_up(image, n))
+    packed(whole::set_up(image, n))
 }
 
 // Begins an acquisition by the module p, with a priority.
@@ -74,7 +74,7 @@ pub extern "C" fn mokroshel_take_log(image: &mut [u8], log: &mut [u8]) -> u32
     ensures { λ r. ⌜ Exports (takeLog (length (now (log .entry)))) (now (image .entry)) r (now (image .exit)) ⌝ }
     ensures { λ r. ⌜ now (log .exit) ≡ buffer (now (image .entry)) (now (log .entry)) ⌝ }
 {
-    packed(image::take_log(image, log))
+    packed(whole::take_log(image, log))
 }
 
 // A turn, by value.

@@ -4,9 +4,6 @@ pub mod Modules
 pub mod Events
 pub mod Stored
 pub mod Named
-pub mod Copies
-pub mod Taken
-pub mod Fresh
 pub mod Outcomes
 pub mod Turns
 pub mod Replies

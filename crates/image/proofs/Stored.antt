@@ -16,12 +16,11 @@ use Rattle.stage.specs.declared.Event.the-variants.{Done, Waiting, Admitted, Jo
 use Rattle.stage.specs.declared.Private.{Private}
 use Rattle.stage.specs.declared.Shared.{Shared}
 use Rattle.stage.specs.declared.Stepped.{Stepped}
-use Rattle.layout.specs.Layout.{byte, held, sharedAt, read, logOf, put}
+use Rattle.layout.specs.Layout.{byte, trailerAt, logAt, sharedAt, read, logOf, put}
 use Rattle.layout.proofs.Stores.{puts}
 use Rattle.layout.proofs.Changes.{withPrivate, withShared, withLock, withLog, privateBytes, sharedBytes, lengthBytes, Room, placeIn, put-private, put-shared, put-lock, put-logged, put-taken}
 use Rattle.layout.proofs.Rewritten.{shared-read, length-held, put-read}
 use Rattle.soundness.specs.SoundImage.{sound}
-use Rattle.image.specs.declared.Frame.{Frame}
 use Rattle.image.specs.declared.Module.{Module}
 use Rattle.image.specs.declared.Looked.{Looked}
 use Rattle.image.specs.Inside.{Framed, IsModule, Looks, partsPut}
@@ -62,9 +61,9 @@ module _ (b : List ℕ) (is : sound b ≡ true) (bytes : (i : ℕ) → byte b i 
   room = record { fits = written b is .fits; held = omega (arith, length-held b (written b is .fits) (written b is .heldFits), written b is .heldFits) }
 
   -- the log taken
-  pub log-cleared : {zeros b₁ b₂ : List ℕ} (f : Frame) → Framed b f → zeros ≡ logOf [] → b₁ ≡ paste b (f .log) zeros capacity → b₂ ≡ puts b₁ (f .trailer) (lengthBytes 0) → b₂ ≡ put (logTaken (read b)) b
+  pub log-cleared : {zeros b₁ b₂ : List ℕ} → zeros ≡ logOf [] → b₁ ≡ paste b (logAt b) zeros capacity → b₂ ≡ puts b₁ (trailerAt b) (lengthBytes 0) → b₂ ≡ put (logTaken (read b)) b
   unfolding logTaken
-  log-cleared f framed zero first second = then-taken (read b) b room at-first (framed .log-is) (framed .trailer-is) zero (second ∙ ap (λ (l : List ℕ). puts l (f .trailer) (lengthBytes 0)) first)
+  log-cleared zero first second = then-taken (read b) b room at-first refl refl zero (second ∙ ap (λ (l : List ℕ). puts l (trailerAt b) (lengthBytes 0)) first)
 
 -- a module's call
 module _ (b : List ℕ) (m : Module) (is : IsModule b m) (bytes : (i : ℕ) → byte b i < 256) where

@@ -1,4 +1,4 @@
-// The five calls and the turn on an image of edition 1, and its lock word.
+// The calls on an image of edition 1 that name a module, the turn, and its lock word. The other two calls are in `whole`.
 //
 // 01, "What a call says", and 02, R-2 and R-3. A call checks the image, refuses by the lowest number that applies (a turn by 1, 10, then 5),
 // reads the parts that it needs, and stores the bytes of the parts that it changes. A step at stage 9 swaps the links where they lie.
@@ -12,21 +12,19 @@ use stage::Shared;
 use stage::Stepped;
 ghost use mathlib.Core.Path.{_≡_};
 ghost use mathlib.Core.Bool.{true, false, _&&_, _||_};
-ghost use mathlib.Core.List.{[], _++_};
 ghost use Prim.Native.Nat.{_+_, _-_, _*_, _^_, _≤_, _<_};
 ghost use lib.Dec.{eqb, leb};
-ghost use lib.ListN.{length, set, take, drop};
-ghost use lib.Seq.{paste};
+ghost use lib.ListN.{length, set};
 ghost use Rattle.link.specs.Count.{next, size};
 ghost use Rattle.stage.specs.Calls as Calls;
-ghost use Rattle.stage.specs.Calls.{setUp, beginAcquisition, beginRelease, takeLog, admits, capacity};
-ghost use Rattle.stage.specs.Table.{idle, untouched, freshTable, afterStep, logTaken};
+ghost use Rattle.stage.specs.Calls.{beginAcquisition, beginRelease, admits, capacity};
+ghost use Rattle.stage.specs.Table.{afterStep};
 ghost use Rattle.stage.specs.Turns.{nextAfter};
-ghost use Rattle.layout.specs.Layout.{lengthFor, byte, two, recordAt, privateAt, sharedAt, read, recordOf, recordsOf, logOf, trailerOf, put};
+ghost use Rattle.layout.specs.Layout.{byte, two, recordAt, privateAt, sharedAt, read, put};
 ghost use Rattle.layout.proofs.Stores.{puts};
 ghost use Rattle.layout.proofs.Changes.{privateBytes, sharedBytes, lengthBytes, wPlace, linkPlace};
 ghost use Rattle.soundness.specs.SoundImage.{sound};
-ghost use Rattle.image.specs.Call.{Does, buffer, lockWord};
+ghost use Rattle.image.specs.Call.{Does, lockWord};
 ghost use Rattle.image.specs.Inside as Inside;
 ghost use Rattle.image.specs.Inside.{Framed, IsNumber, IsModule, Finds, firstAble, Tells, Looks, partsPut, Says};
 ghost use Rattle.image.specs.Turn as Turn;
@@ -313,110 +311,6 @@ fn store(image: &mut [u8], m: Module, l: Looked)
     }
 }
 
-// Copies the first n bytes of src into dst, from a place on.
-fn copy(dst: &mut [u8], at: usize, src: &[u8], n: usize)
-    requires { ⌜ (at + n ≤ length (now dst)) × (n ≤ length (now src)) ⌝ }
-    ensures { λ r. ⌜ now (dst .exit) ≡ paste (now (dst .entry)) at (now (src .entry)) n ⌝ }
-{
-    let mut i = 0;
-    while i < n {
-        dst[at + i] = src[i];
-        i += 1;
-    }
-}
-
-// The log bytes of an empty log.
-fn empty_log() -> [u8; 256]
-    ensures { λ r. ⌜ r ≡ logOf [] ⌝ }
-{
-    [0u8; 256]
-}
-
-// The log bytes of an image, from the log's place on.
-fn log_at(image: &[u8], at: usize) -> [u8; 256]
-    requires { ⌜ at + capacity ≤ length (now image) ⌝ }
-    ensures { λ r. ⌜ r ≡ take capacity (drop at (now (image .entry))) ⌝ }
-{
-    let mut log = empty_log();
-    copy(&mut log, 0, &image[at..], 256);
-    log
-}
-
-// Hands the entries of an image's log over to the buffer that is lent for them.
-fn hand_over(image: &[u8], frame: Frame, log: &mut [u8])
-    requires { ⌜ Framed (now image) frame ⌝ }
-    requires { ⌜ frame .held ≤ length (now log) ⌝ }
-    ensures { λ r. ⌜ now (log .exit) ≡ read (now (image .entry)) .log ++ drop (length (read (now (image .entry)) .log)) (now (log .entry)) ⌝ }
-{
-    let entries = log_at(image, frame.log);
-    copy(log, 0, &entries, frame.held as usize);
-}
-
-// Makes the log of an image empty and zero.
-fn clear_log(image: &mut [u8], frame: Frame)
-    requires { ⌜ Framed (now image) frame ⌝ }
-    ensures { λ r. ⌜ now (image .exit) ≡ put (logTaken (read (now (image .entry)))) (now (image .entry)) ⌝ }
-{
-    let empty = empty_log();
-    copy(image, frame.log, &empty, 256);
-    put_length(image, frame.trailer, 0);
-}
-
-// The bytes of a fresh record: zero but for the fresh link.
-fn fresh_record() -> [u8; 16]
-    ensures { λ r. ⌜ r ≡ recordOf idle untouched ⌝ }
-{
-    let l = Link::FRESH;
-    let mut r = [0u8; 16];
-    r[8] = l.pointer;
-    r[9] = l.mark;
-    r[10] = (l.count / 256) as u8;
-    r[11] = (l.count % 256) as u8;
-    r
-}
-
-// The bytes of the trailer of a fresh image: zero but for edition, n and distance.
-fn fresh_trailer(n: u16) -> [u8; 12]
-    requires { ⌜ n ≤ 64 ⌝ }
-    ensures { λ r. ⌜ r ≡ trailerOf (freshTable n) ⌝ }
-{
-    let distance = 16 * n + 256;
-    let mut r = [0u8; 12];
-    r[1] = 1;
-    r[2] = (n / 256) as u8;
-    r[3] = (n % 256) as u8;
-    r[10] = (distance / 256) as u8;
-    r[11] = (distance % 256) as u8;
-    r
-}
-
-// Writes n fresh records from a place on.
-fn put_records(image: &mut [u8], first: usize, n: usize)
-    requires { ⌜ first + 16 * n ≤ length (now image) ⌝ }
-    ensures { λ r. ⌜ now (image .exit) ≡ paste (now (image .entry)) first (recordsOf n (freshTable n)) (16 * n) ⌝ }
-{
-    let fresh = fresh_record();
-    let mut k = 0;
-    while k < n {
-        copy(image, first + 16 * k, &fresh, 16);
-        k += 1;
-    }
-}
-
-// Writes a fresh image of n modules at the end of a buffer.
-fn put_fresh(image: &mut [u8], n: u16)
-    requires { ⌜ (n ≤ 64) × (lengthFor n ≤ length (now image)) ⌝ }
-    ensures { λ r. ⌜ now (image .exit) ≡ put (freshTable n) (now (image .entry)) ⌝ }
-{
-    let end = image.len();
-    let count = n as usize;
-    put_records(image, end - (16 * count + 268), count);
-    let log = empty_log();
-    copy(image, end - 268, &log, 256);
-    let trailer = fresh_trailer(n);
-    copy(image, end - 12, &trailer, 12);
-}
-
 // Begins an acquisition by a module that was found.
 fn begin_acquisition_of(image: &mut [u8], m: Module, priority: u32) -> Reply
     requires { ⌜ IsModule (now image) m ⌝ }
@@ -584,23 +478,6 @@ pub fn lock_word(image: &[u8]) -> u8
     image[trailer]
 }
 
-// Sets up a fresh table of n modules.
-pub fn set_up(image: &mut [u8], n: u32) -> Reply
-    ensures { λ r. ⌜ Does (setUp n) (now (image .entry)) r (now (image .exit)) ⌝ }
-{
-    if n < 1 {
-        return Reply::Refused(7);
-    }
-    if 64 < n {
-        return Reply::Refused(7);
-    }
-    if image.len() < 16 * (n as usize) + 268 {
-        return Reply::Refused(8);
-    }
-    put_fresh(image, n as u16);
-    Reply::Answered(Answer::DONE)
-}
-
 // Begins an acquisition by the module p, with a priority.
 pub fn begin_acquisition(image: &mut [u8], p: u32, priority: u32) -> Reply
     ensures { λ r. ⌜ Does (beginAcquisition p priority) (now (image .entry)) r (now (image .exit)) ⌝ }
@@ -652,22 +529,4 @@ pub fn turn(image: &mut [u8], last: u32) -> Turned
         },
         Found::Number(number) => turn_after(image, number),
     }
-}
-
-// Takes the log: its entries go to the buffer that is lent for them.
-pub fn take_log(image: &mut [u8], log: &mut [u8]) -> Reply
-    ensures { λ r. ⌜ Does (takeLog (length (now (log .entry)))) (now (image .entry)) r (now (image .exit)) ⌝ }
-    ensures { λ r. ⌜ now (log .exit) ≡ buffer (now (image .entry)) (now (log .entry)) ⌝ }
-{
-    if !soundness::sound(image) {
-        return Reply::Refused(1);
-    }
-    let frame = frame_of(image);
-    let held = frame.held;
-    if log.len() < held as usize {
-        return Reply::Refused(6);
-    }
-    hand_over(image, frame, log);
-    clear_log(image, frame);
-    Reply::Answered(Answer::taken(held))
 }

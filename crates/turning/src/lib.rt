@@ -33,7 +33,7 @@ pub fn turn(image: &mut [u8], line: &[u8]) -> Reply
 {
     let command = lines::parse(line);
     match command {
-        Command::SetUp(n) => image::set_up(image, n),
+        Command::SetUp(n) => whole::set_up(image, n),
         Command::BeginAcquisition(p, priority) => image::begin_acquisition(image, p, priority),
         Command::BeginRelease(p) => image::begin_release(image, p),
         Command::Step(p) => image::step(image, p),
@@ -101,7 +101,7 @@ fn put_held(image: &mut [u8], out: &mut [u8], at: usize) -> usize
     ensures { λ r. ⌜ Put (logText (heldLog (now (image .entry)))) (now (out .entry)) at r (now (out .exit)) ⌝ }
 {
     let mut log = [0u8; 256];
-    let held = taken_of(image::take_log(image, &mut log));
+    let held = taken_of(whole::take_log(image, &mut log));
     lines::put_log(out, at, &log[0..held])
 }
 

@@ -1,10 +1,10 @@
 -- `set_up` refuses a number, then a short buffer; past both it writes a fresh image.
 -- Assumes nothing.
 use borrow.Author.Needs.{needs}
-use Rattle.image.proofs.Fresh.{no-number, no-room, sets-up}
+use Rattle.whole.proofs.Fresh.{no-number, no-room, sets-up}
 use Rattle.image.proofs.Refusals.{too-low, too-high}
-use Rattle.image.proofs.set_up.Statement.{statement}
-use Rattle.image.proofs.set_up.Tie as tie
+use Rattle.whole.proofs.set_up.Statement.{statement}
+use Rattle.whole.proofs.set_up.Tie as tie
 
 returns : tie.Need-returns
 returns c = no-number _ _ (too-low _ _ _ (c .if1 .taken))

@@ -9,8 +9,8 @@ use borrow.Author.Needs.{needs}
 use denote.Ref.{now}
 use lib.ListN.{length, getD, set, length-set}
 use lib.Seq.{paste, paste-zero, paste-suc}
-use Rattle.image.proofs.copy.Statement.{statement}
-use Rattle.image.proofs.copy.Tie as tie
+use Rattle.whole.proofs.copy.Statement.{statement}
+use Rattle.whole.proofs.copy.Tie as tie
 
 abbrev Inv-loop : tie.InvT-loop
 Inv-loop dst₀ at src n i₀ dst i = (i ≤ n) × ((length dst ≡ length dst₀) × (dst ≡ paste dst₀ at src i))

@@ -17,22 +17,32 @@ use Rattle.stage.specs.declared.Answer.{Answer}
 use Rattle.stage.specs.declared.Event.the-variants.{Taken}
 use Rattle.stage.specs.declared.Reply.the-variants.{Refused, Answered}
 use Rattle.layout.specs.Layout.{held, logAt, read, put}
+use Rattle.layout.proofs.Rewritten.{length-held}
 use Rattle.soundness.specs.SoundImage.{sound}
-use Rattle.image.specs.declared.Frame.{Frame}
 use Rattle.image.specs.Call.{refused, buffer, Does}
-use Rattle.image.specs.Inside.{given, Framed}
-use Rattle.image.proofs.Modules.{entries}
+use Rattle.image.specs.Inside.{given}
 use Rattle.image.proofs.Refusals.{chosen, refuses, accepts}
+use Rattle.image.proofs.Sound.{written}
 
-module _ (b : List ℕ) (f : Frame) (framed : Framed b f) where
-  -- the entries go first into the buffer
-  pub handed : (lent : List ℕ) {all lent′ : List ℕ} → all ≡ take capacity (drop (f .log) b) → lent′ ≡ paste lent 0 all (f .held) → lent′ ≡ read b .log ++ drop (length (read b .log)) lent
+-- a sound image has a log and a trailer
+pub long : (b : List ℕ) → sound b ≡ true → 268 ≤ length b
+long b is = omega (arith, written b is .fits)
+
+module _ (b : List ℕ) (is : sound b ≡ true) (k : ℕ) (k-is : k ≡ held b) where
+  -- so many entries are held
+  entries : length (read b .log) ≡ k
+  entries = length-held b (written b is .fits) (written b is .heldFits) ∙ sym k-is
+
+  pub few : k ≤ capacity
+  few = omega (arith, k-is, written b is .heldFits)
+
+  -- they go first into the buffer
+  pub handed : (lent : List ℕ) {all lent′ : List ℕ} → all ≡ take capacity (drop (logAt b) b) → lent′ ≡ paste lent 0 all k → lent′ ≡ read b .log ++ drop (length (read b .log)) lent
   unfolding read
   handed lent {all} all-is same =
-      let count : 0 + f .held ≡ length (read b .log) = omega (arith, entries b f framed) in
-      let log : take (f .held) all ≡ read b .log =
-      ap₂ take (framed .held-is) (all-is ∙ ap (λ (i : ℕ). take capacity (drop i b)) (framed .log-is)) ∙ take-take (held b) capacity (drop (logAt b) b) (framed .heldFits) in
-      same ∙ ap₂ (λ (x : List ℕ) (k : ℕ). x ++ drop k lent) log count
+      let count : 0 + k ≡ length (read b .log) = omega (arith, entries) in
+      let log : take k all ≡ read b .log = ap₂ take k-is all-is ∙ take-take (held b) capacity (drop (logAt b) b) (written b is .heldFits) in
+      same ∙ ap₂ (λ (x : List ℕ) (j : ℕ). x ++ drop j lent) log count
 
 module _ (b lent : List ℕ) where
   asks : refused (takeLog (length lent)) b ≡ (not (sound b), 1) ∷ (ltb (length lent) (length (read b .log)), 6) ∷ []
@@ -48,20 +58,20 @@ module _ (b lent : List ℕ) where
   unfolding given refusing
   untaken no·b = refused-both 1 (ap given asks ∙ simp no·b)
 
-  module _ (f : Frame) (framed : Framed b f) where
-    given-is : (t : Bool) → ltb (length lent) (f .held) ≡ t → given (refused (takeLog (length lent)) b) ≡ given ((t, 6) ∷ [])
+  module _ (is : sound b ≡ true) (k : ℕ) (k-is : k ≡ held b) where
+    given-is : (t : Bool) → ltb (length lent) k ≡ t → given (refused (takeLog (length lent)) b) ≡ given ((t, 6) ∷ [])
     unfolding given refusing
-    given-is t e = ap given asks ∙ simp (framed .is, entries b f framed, e)
+    given-is t e = ap given asks ∙ simp (is, entries b is k k-is, e)
 
-    pub short : length lent < f .held → Does (takeLog (length lent)) b (Refused 6) b × (lent ≡ buffer b lent)
+    pub short : length lent < k → Does (takeLog (length lent)) b (Refused 6) b × (lent ≡ buffer b lent)
     unfolding given refusing
     short h = refused-both 6 (given-is true (lt-ltb _ _ h))
 
-    pub takes : {b′ lent′ : List ℕ} (a : Answer) → f .held ≤ length lent → a ≡ answerOf (Taken (f .held)) → b′ ≡ put (logTaken (read b)) b → lent′ ≡ read b .log ++ drop (length (read b .log)) lent →
+    pub takes : {b′ lent′ : List ℕ} (a : Answer) → k ≤ length lent → a ≡ answerOf (Taken k) → b′ ≡ put (logTaken (read b)) b → lent′ ≡ read b .log ++ drop (length (read b .log)) lent →
         Does (takeLog (length lent)) b (Answered a) b′ × (lent′ ≡ buffer b lent)
     unfolding given refusing answered after buffer
     takes a h a-is put-is handed-over =
         let g : given (refused (takeLog (length lent)) b) ≡ none = given-is false (le-ltb _ _ h) in (
-          accepts (takeLog (length lent)) b g (ap Answered (a-is ∙ ap (λ (k : ℕ). answerOf (Taken k)) (sym (entries b f framed)))) put-is,
+          accepts (takeLog (length lent)) b g (ap Answered (a-is ∙ ap (λ (j : ℕ). answerOf (Taken j)) (sym (entries b is k k-is)))) put-is,
           handed-over ∙ sym (chosen (λ j. lent) _ (refused (takeLog (length lent)) b) none g),
         )

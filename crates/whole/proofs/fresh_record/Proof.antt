@@ -5,8 +5,8 @@ use borrow.Author.Needs.{needs}
 use Rattle.link.specs.Operations.{fresh}
 use Rattle.stage.specs.Table.{idle, untouched}
 use Rattle.layout.specs.Layout.{recordOf}
-use Rattle.image.proofs.fresh_record.Statement.{statement}
-use Rattle.image.proofs.fresh_record.Tie as tie
+use Rattle.whole.proofs.fresh_record.Statement.{statement}
+use Rattle.whole.proofs.fresh_record.Tie as tie
 
 array-write-r : tie.Need-array-write-r
 array-write-r c = search needs

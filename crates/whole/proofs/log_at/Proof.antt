@@ -5,9 +5,9 @@ use borrow.Author.Needs.{needs}
 use denote.Ref.{now}
 use lib.ListN.{length}
 use Rattle.layout.specs.Layout.{logOf}
-use Rattle.image.proofs.Copies.{copied}
-use Rattle.image.proofs.log_at.Statement.{statement}
-use Rattle.image.proofs.log_at.Tie as tie
+use Rattle.whole.proofs.Copies.{copied}
+use Rattle.whole.proofs.log_at.Statement.{statement}
+use Rattle.whole.proofs.log_at.Tie as tie
 
 empty-log-requires : tie.Need-empty-log-requires
 empty-log-requires c κs = search needs

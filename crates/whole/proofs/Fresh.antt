@@ -16,10 +16,10 @@ use Rattle.stage.specs.declared.Event.the-variants.{Done}
 use Rattle.stage.specs.declared.Reply.the-variants.{Refused, Answered}
 use Rattle.layout.specs.Layout.{lengthFor, distanceFor, recordOf, recordsOf, logOf, trailerOf, write, put}
 use Rattle.layout.proofs.Changes.{length-record, length-records, length-log}
 use Rattle.image.specs.Call.{fits, refused, Does}
 use Rattle.image.specs.Inside.{given}
-use Rattle.image.proofs.Copies.{then-behind}
+use Rattle.whole.proofs.Copies.{then-behind}
 use Rattle.image.proofs.Refusals.{in-range, refuses, accepts}
 
 -- one record more
 pub record-more : (d : List ℕ) (first n k : ℕ) {b fresh b′ : List ℕ} → first + 16 * (k + 1) ≤ length d → fresh ≡ recordOf idle untouched →

@@ -2,8 +2,8 @@
 -- Assumes nothing.
 use mathlib.Core.Path.{refl}
 use Rattle.layout.specs.Layout.{logOf}
-use Rattle.image.proofs.empty_log.Statement.{statement}
-use Rattle.image.proofs.empty_log.Tie as tie
+use Rattle.whole.proofs.empty_log.Statement.{statement}
+use Rattle.whole.proofs.empty_log.Tie as tie
 
 returns : tie.Need-returns
 unfolding logOf

@@ -1,9 +1,9 @@
 -- The array of `fresh_trailer` is the trailer of a fresh table.
 -- Assumes nothing.
 use borrow.Author.Needs.{needs}
-use Rattle.image.proofs.Fresh.{trailer-is}
-use Rattle.image.proofs.fresh_trailer.Statement.{statement}
-use Rattle.image.proofs.fresh_trailer.Tie as tie
+use Rattle.whole.proofs.Fresh.{trailer-is}
+use Rattle.whole.proofs.fresh_trailer.Statement.{statement}
+use Rattle.whole.proofs.fresh_trailer.Tie as tie
 
 mul-distance : tie.Need-mul-distance
 mul-distance c = search needs

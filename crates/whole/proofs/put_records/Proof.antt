@@ -9,9 +9,9 @@ use lib.ListN.{length}
 use lib.Seq.{paste, paste-zero}
 use Rattle.stage.specs.Table.{freshTable}
 use Rattle.layout.specs.Layout.{recordsOf}
-use Rattle.image.proofs.Fresh.{record-more}
-use Rattle.image.proofs.put_records.Statement.{statement}
-use Rattle.image.proofs.put_records.Tie as tie
+use Rattle.whole.proofs.Fresh.{record-more}
+use Rattle.whole.proofs.put_records.Statement.{statement}
+use Rattle.whole.proofs.put_records.Tie as tie
 
 abbrev Inv-loop : tie.InvT-loop
 Inv-loop image₀ first n fresh k₀ image k =

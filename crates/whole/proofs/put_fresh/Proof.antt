@@ -1,9 +1,9 @@
 -- `put_fresh` writes records, log and trailer one behind the other.
 -- Assumes nothing.
 use borrow.Author.Needs.{needs}
-use Rattle.image.proofs.Fresh.{fresh-put}
-use Rattle.image.proofs.put_fresh.Statement.{statement}
-use Rattle.image.proofs.put_fresh.Tie as tie
+use Rattle.whole.proofs.Fresh.{fresh-put}
+use Rattle.whole.proofs.put_fresh.Statement.{statement}
+use Rattle.whole.proofs.put_fresh.Tie as tie
 
 mul-put-records : tie.Need-mul-put-records
 mul-put-records c = search needs

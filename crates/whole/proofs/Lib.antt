@@ -1,0 +1,3 @@
+pub mod Copies
+pub mod Taken
+pub mod Fresh
