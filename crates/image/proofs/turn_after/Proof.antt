@@ -9,7 +9,6 @@ use Rattle.image.proofs.turn_after.Tie as tie
 next-after-requires : tie.Need-next-after-requires
 next-after-requires c κs = search needs
 
--- /work/main/target/rlib/stage.rlib/interface/lang/src/lib.rt:15:59
 enum-told : tie.Need-enum-told
 enum-told c = search needs
 
