@@ -1,1 +1,2 @@
 // No code: the bench table, and its proof.
+#![tactic(auto)]

@@ -1,6 +1,8 @@
 // The five calls and the turn, for programs in other languages: `c/mokroshel.h` declares them.
 //
 // 01, "What a call says", and 02, R-2. An exported function returns a number, so each packs what its call says into one of 32 bits.
+#![tactic(auto)]
+
 ghost use Rattle.std.specs.Prelude.{◌≡◌, length};
 ghost use Rattle.stage.specs.Calls.{set_up, begin_acquisition, begin_release, step, take_log};
 ghost use Rattle.image.specs.Call.{buffer};
@@ -11,13 +13,13 @@ use stage::Reply;
 
 // The turn marker: the number of the module that was served last.
 #[repr(C)]
-#[derive(Drop)]
+#[derive(Clone, Copy)]
 pub struct Marker {
     pub last: u32,
 }
 
 // What a step or a turn says, as one number, and the marker after it.
-#[derive(Drop)]
+#[derive(Clone, Copy)]
 struct Told {
     said: u32,
     last: u32,

@@ -2,6 +2,8 @@
 //
 // 01, "What a call says", and 02, R-2 and R-3. A call checks the image, refuses by the lowest number that applies (a turn by 1, 10, then 5),
 // reads the parts that it needs, and stores the bytes of the parts that it changes. A step at stage 9 swaps the links where they lie.
+#![tactic(auto)]
+
 ghost use Rattle.std.specs.Prelude.{◌≡◌, true, false, ◌&&◌, ◌||◌, ◌+◌, ◌-◌, ◌*◌, ◌^◌, ◌≤◌, ◌<◌, eqb, leb, length, set};
 ghost use Rattle.link.specs.Count.{next, size};
 ghost use Rattle.stage.specs.Calls as Calls;
@@ -23,7 +25,7 @@ use link::Link;
 use stage::{Answer, Event, Private, Reply, Shared, Stepped};
 
 // Where the parts of a sound image lie: its n, the places of record 1, of the log and of the trailer, and how many entries are held.
-#[derive(Drop)]
+#[derive(Clone, Copy)]
 struct Frame {
     n: u16,
     first: usize,
@@ -33,7 +35,7 @@ struct Frame {
 }
 
 // A module of a sound image: the place of its record, and its private part.
-#[derive(Drop)]
+#[derive(Clone, Copy)]
 struct Module {
     frame: Frame,
     number: u8,
@@ -42,21 +44,21 @@ struct Module {
 }
 
 // What the search for a module comes to: a refusal or the module, each by its number.
-#[derive(Drop)]
+#[derive(Clone, Copy)]
 enum Found {
     Refused(u8),
     Number(u8),
 }
 
 // Whose turn is next.
-#[derive(Drop)]
+#[derive(Clone, Copy)]
 enum Next {
     Nobody,
     Module(u8),
 }
 
 // What a step or a turn says, and the marker after it.
-#[derive(Drop)]
+#[derive(Clone, Copy)]
 pub struct Turned {
     pub reply: Reply,
     pub last: u32,
@@ -67,7 +69,7 @@ pub struct Turned {
 const REFUSED: u8 = 16;
 
 // A step, before it is stored: the place of the record that it looks at, and what it leaves.
-#[derive(Drop)]
+#[derive(Clone, Copy)]
 struct Looked {
     at: usize,
     stepped: Stepped,

@@ -3,6 +3,8 @@
 // 02, R-3: "Compare in the image itself; no answer or byte differs." It is the swap of the crate `link`, held to the same definition, but
 // nothing is copied out first: pointer, mark and count are compared where they lie, and only what changes is written. So neither the crate
 // `link` nor the machine above it knows a byte.
+#![tactic(auto)]
+
 ghost use Rattle.std.specs.Prelude.{◌≡◌, ◌<◌};
 ghost use Rattle.link.specs.Count.{next, size};
 ghost use Rattle.link.specs.Operations.{changed, same};
@@ -10,7 +12,7 @@ ghost use Rattle.inplace.specs.InPlace as InPlace;
 ghost use Rattle.inplace.specs.InPlace.{Lies, link_at, link_put, swapped_in};
 
 // Where a link lies in bytes: its pointer, with its mark behind it, and its count, the greater of two bytes first.
-#[derive(Drop)]
+#[derive(Clone, Copy)]
 pub struct Place {
     pub pointer: usize,
     pub count: usize,

@@ -37,8 +37,10 @@ or_right false c t = t
 
 pub both : (a b : Bool) → T (a && b) → T a × T b
 both true b t = (tt, t)
+both false b t = elim t [ ]
 
 pub disjoint : (js ks : List ℕ) → T (apart js ks) → (k : ℕ) → T (among k js) → T (among k ks) → ⊥
+disjoint [] ks t k here there = elim here [ ]
 disjoint (j ∷ js) ks t k here there =
     let a = both (not (among j ks)) (apart js ks) t in
     one_of (eqb k j) (among k js)
@@ -47,6 +49,7 @@ disjoint (j ∷ js) ks t k here there =
     here
 
 pub included : (js ks : List ℕ) → T (inside js ks) → (k : ℕ) → T (among k js) → T (among k ks)
+included [] ks t k here = elim here [ ]
 included (j ∷ js) ks t k here =
     let a = both (among j ks) (inside js ks) t in
     one_of (eqb k j) (among k js)

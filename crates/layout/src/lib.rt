@@ -1,1 +1,2 @@
 // Where the parts of a record lie in an image of edition 1.
+#![tactic(auto)]

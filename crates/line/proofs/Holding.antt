@@ -26,6 +26,7 @@ leads t (x ∷ l) c some = (refl, some x.module (inl refl), subst⁻¹ (λ (q : 
 -- "at stage 15 or 16", as the definition of found has it and as the invariant has it
 one_of_two : (a b : Bool) → T (a || (b || false)) → (a || b) ≡ true
 one_of_two true b t = refl
+one_of_two false false t = elim t [ ]
 one_of_two false true t = refl
 
 two_of_one : (a b : Bool) → (a || b) ≡ true → T (a || (b || false))

@@ -13,17 +13,20 @@ use Rattle.line.proofs.Places.{In, Distinct, Sorted, head, behind, standing}
 
 -- nobody in a sorted line is more urgent than its first
 pub under : (y : Place) (l : List Place) → Sorted (y ∷ l) → (z : Place) → InLine z l → z.priority ≤ y.priority
+under y [] s z x'' = elim x'' [ ]
 under y (x ∷ l) s z (inl e) = omega (arith, ap (λ (w : Place). w.priority) e)
 under y (x ∷ l) s z (inr i) = omega (arith, under x l s.1 z i)
 
 -- who is not in the line is none of its modules
 apart : (p : ℕ) (l : List Place) → (In p l → ⊥) → (q : ℕ) → OneOf q (modules l) → q ≢ p
 unfolding modules
+apart p [] out q x3 e = elim x3 [ ]
 apart p (x ∷ l) out q (inl a) e = out (inl (sym e ∙ a))
 apart p (x ∷ l) out q (inr i) e = apart p l (λ k. out (inr k)) q i e
 
 place_in : (x : Place) (l : List Place) → InLine x l → OneOf x.module (modules l)
 unfolding modules
+place_in x [] x'' = elim x'' [ ]
 place_in x (y ∷ l) (inl e) = inl (ap (λ (z : Place). z.module) e)
 place_in x (y ∷ l) (inr i) = inr (place_in x l i)
 

@@ -12,11 +12,13 @@ use Rattle.line.specs.Corollaries.{OneOf, Ahead, without}
 
 module _ (p : ℕ) where
   pub one_append : (q : ℕ) (s : List ℕ) → OneOf q (s ++ p ∷ []) → OneOf q s ⊎ (q ≡ p)
+  one_append q [] (inr i) = elim i [ ]
   one_append q [] (inl e) = inr e
   one_append q (x ∷ s) (inl e) = inl (inl e)
   one_append q (x ∷ s) (inr i) = ⊎_elim (λ j. inl (inr j)) inr (one_append q s i)
 
   pub append_one : (q : ℕ) (s : List ℕ) → OneOf q s ⊎ (q ≡ p) → OneOf q (s ++ p ∷ [])
+  append_one q [] (inl x'') = elim x'' [ ]
   append_one q [] (inr e) = inl e
   append_one q (x ∷ s) (inl (inl e)) = inl e
   append_one q (x ∷ s) (inl (inr i)) = inr (append_one q s (inl i))
@@ -24,6 +26,7 @@ module _ (p : ℕ) where
 
   -- who is ahead of somebody was there before p, and the other was too, or is p
   pub ahead_append : (a b : ℕ) (s : List ℕ) → Ahead a b (s ++ p ∷ []) → OneOf a s × (Ahead a b s ⊎ (b ≡ p))
+  ahead_append a b [] (inr i) = elim i [ ]
   ahead_append a b [] (inl z) = absurd z.1
   ahead_append a b (x ∷ s) (inl z) = (inl z.0, ⊎_elim (λ i. inl (inl (z.0, i))) inr (one_append b s z.1))
   ahead_append a b (x ∷ s) (inr i) = let r = ahead_append a b s i in (inr r.0, ⊎_elim (λ j. inl (inr j)) inr r.1)

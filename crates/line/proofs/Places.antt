@@ -57,6 +57,7 @@ in? q (x ∷ l) = go (equal q x.module) (in? q l)
 -- All ----------------------------------------------------------------------------------------------------------------------------
 
 pub all_at : (P : Place → Type 0) (l : List Place) (q : ℕ) → All P l → In q l → (x : Place) × (x.module ≡ q) × P x
+all_at P [] q all x'' = elim x'' [ ]
 all_at P (x ∷ l) q all (inl e) = (x, sym e, all.0)
 all_at P (x ∷ l) q all (inr i) = all_at P l q all.1 i
 
@@ -72,6 +73,8 @@ chain_map to to' (x ∷ l) f c = (f x.module (inl refl) ∙ c.0, chain_map to to
 
 -- a pointer of somebody in the line that is not nil is to somebody behind the first
 pub chain_behind : (to : ℕ → ℕ) (l : List Place) → Chain to l → (q : ℕ) → In q l → to q ≢ 0 → In (to q) (behind l)
+chain_behind to (x ∷ []) c q (inr i) n = elim i [ ]
+chain_behind to [] c q x3 n = elim x3 [ ]
 chain_behind to (x ∷ []) c q (inl e) n = absurd (n (ap to e ∙ c.0))
 chain_behind to (x ∷ y ∷ l) c q (inl e) n = inl (ap to e ∙ c.0)
 chain_behind to (x ∷ y ∷ l) c q (inr i) n = inr (chain_behind to (y ∷ l) c.1 q i n)
@@ -154,6 +157,7 @@ module _ (to to' : ℕ → ℕ) (x : Place) (at next : ℕ)
 
   -- whoever stands before somebody at least as urgent as x is so too
   at_least : (y : Place) (l : List Place) → Sorted (y ∷ l) → All (λ z. urgent z.module ≡ z.priority) (y ∷ l) → In at (y ∷ l) → x.priority ≤ y.priority
+  at_least y [] s u (inr i) = elim i [ ]
   at_least y [] s u (inl e) = first y (e, u.0)
   at_least y (z ∷ l) s u (inl e) = first y (e, u.0)
   at_least y (z ∷ l) s u (inr i) = let h = at_least z l s.1 u.1 i in omega arith
@@ -165,6 +169,7 @@ module _ (to to' : ℕ → ℕ) (x : Place) (at next : ℕ)
       (y : Place) (l : List Place) → Distinct (y ∷ l) → (In x.module (y ∷ l) → ⊥) → ((q : ℕ) → In q (y ∷ l) → q ≢ 0)
       → Sorted l → All (λ z. urgent z.module ≡ z.priority) l → Chain to (y ∷ l) → In at (y ∷ l) → Chain to' (y ∷ stand x l)
   unfolding stand
+  joined y [] d n z s u c (inr i) = elim i [ ]
   joined y [] d n z s u c (inl e) = (ap to' (sym e) ∙ now, (its ∙ sym was ∙ ap to e ∙ c.0, tt))
   joined y (w ∷ l) d n z s u c (inl e) =
       let to_w : next ≡ w.module = sym was ∙ ap to e ∙ c.0 in

@@ -27,6 +27,7 @@ Each P [] = Unit {0}
 Each P (j ∷ js) = P j × Each P js
 
 pub among_each : (P : ℕ → Type 0) (js : List ℕ) → Each P js → (k : ℕ) → T (among k js) → P k
+among_each P [] all k t = elim t [ ]
 among_each P (j ∷ js) all k t =
     one_of (eqb k j) (among k js) (λ e. subst⁻¹ P (eqb-true k j e) all.0) (λ rest. among_each P js all.1 k rest) t
 

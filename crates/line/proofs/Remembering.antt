@@ -74,6 +74,7 @@ someone_in (x ∷ l) some = refl
 
 someone_joined : (x : Place) (l : List Place) (q : ℕ) → In q l → someone (join x l) ≡ someone l
 unfolding join someone
+someone_joined x [] q into = elim into [ ]
 someone_joined x (y ∷ l) q into = refl
 
 sorted_leave : (l : List Place) → Sorted (behind l) → Sorted (leave l)

@@ -1,1 +1,2 @@
 // No code: what demand 3 says, and its proof of the machine.
+#![tactic(auto)]

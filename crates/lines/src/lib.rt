@@ -1,4 +1,6 @@
 // The lines that the program `turns` reads and writes: what a line of input asks for, and the text of an answer. 01, "The program `turns`".
+#![tactic(auto)]
+
 ghost use Rattle.std.specs.Prelude.{◌≡◌, [], ◌∷◌, ◌+◌, ◌-◌, ◌≤◌, ◌<◌, leb, length, get_or};
 ghost use Rattle.lines.specs.Command as Line;
 ghost use Rattle.lines.specs.Command.{digit, number_from, number_at, last, of_one, of_two, parted, by_letter, command_of};
@@ -8,7 +10,7 @@ ghost use Rattle.lines.specs.Text.{decimal, line_text, reply_text, lock_text, en
 use stage::Reply;
 
 // A command of a line.
-#[derive(Drop)]
+#[derive(Clone, Copy)]
 pub enum Command {
     SetUp(u32),
     BeginAcquisition(u32, u32),
@@ -18,7 +20,7 @@ pub enum Command {
 }
 
 // A number that was read, and the place after it.
-#[derive(Drop)]
+#[derive(Clone, Copy)]
 enum Number {
     Read(u32, usize),
     Nothing,

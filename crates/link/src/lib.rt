@@ -2,6 +2,8 @@
 //
 // 01, "What the desk does": a pointer (0 is nil), a mark and a change count of 16 bits. Everything above this crate reads a
 // link's parts and changes them by `point`, `open`, `close` and `swap` alone. Each answers the link as it is afterwards.
+#![tactic(auto)]
+
 ghost use Rattle.std.specs.Prelude.{◌≡◌};
 ghost use Rattle.link.specs.Count.{next, size};
 ghost use Rattle.link.specs.Operations as Operations;
@@ -12,7 +14,7 @@ pub const OPEN: u8 = 0;
 
 pub const CLOSED: u8 = 1;
 
-#[derive(Drop)]
+#[derive(Clone, Copy)]
 pub struct Link {
     pub pointer: u8,
     pub mark: u8,
@@ -20,7 +22,7 @@ pub struct Link {
 }
 
 // What a swap did.
-#[derive(Drop)]
+#[derive(Clone, Copy)]
 pub enum Swapped {
     // It found what it expected: the link as it is now.
     Done(Link),
@@ -29,6 +31,7 @@ pub enum Swapped {
 }
 
 // The link with another pointer and mark, and its count one further: after 65,535 comes 0.
+#[tactic(auto, unfolding(crate::specs::Operations::changed))]
 fn changed(l: Link, to: u8, marked: u8) -> Link
     ensures { result ≡ Operations.changed (next size) l to marked }
 {
@@ -40,6 +43,7 @@ fn changed(l: Link, to: u8, marked: u8) -> Link
 }
 
 // Whether all three parts are equal.
+#[tactic(auto, unfolding(crate::specs::Operations::same))]
 fn same(l: Link, expected: Link) -> bool
     ensures { result ≡ Operations.same l expected }
 {
@@ -82,6 +86,7 @@ impl Link {
     }
 
     // Where all three parts are those of `expected`, the pointer becomes `to` and the mark open. Otherwise nothing changes.
+    #[tactic(auto, unfolding(crate::specs::Operations::swapped))]
     pub fn swap(self, expected: Link, to: u8) -> Swapped
         ensures { result ≡ swapped (next size) self expected to }
     {

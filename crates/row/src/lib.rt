@@ -2,6 +2,8 @@
 //
 // 01, "The stage table", and 02, R-1. A row reads or writes the shared part of ONE module, the one that `looks_at` names, or the lock word.
 // So `step` takes the stepping module's private part, that one shared part and the lock word, and answers what each is afterwards.
+#![tactic(auto)]
+
 ghost use Rattle.std.specs.Prelude.{◌≡◌};
 ghost use Rattle.link.specs.Count.{next, size};
 ghost use Rattle.stage.specs.Rows.{looks_at, stepped};
@@ -31,7 +33,7 @@ pub fn looks_at(me: Private, p: u8) -> u8
 pub const SWAP: u8 = 9;
 
 // Where a swap leads, and its answer.
-#[derive(Drop)]
+#[derive(Clone, Copy)]
 pub struct After {
     pub stage: u8,
     pub answer: Answer,

@@ -10,6 +10,8 @@
 // for each place, how far any byte there lay outside of its two, and is asked once, at the end. The compiler holds 16 lanes in one
 // register only if it can do the same in all of them, and if nothing else looks at a record's bytes: so the rules are rows of numbers,
 // looked up by the stage, and are not written out byte by byte. That these rows are the rules is shown in proofs/Tables.antt.
+#![tactic(auto)]
+
 ghost use Rattle.std.specs.Prelude.{◌≡◌, ◌&&◌, ◌+◌, ◌-◌, ◌*◌, ◌<◌, ◌≤◌, min, max, leb, length};
 ghost use Rattle.stage.specs.Calls.{within};
 ghost use Rattle.stage.specs.Sound.{at, each, sound_link, sound_own, sound_stage, sound_private, sound_shared};

@@ -2,6 +2,8 @@
 //
 // 01, "The stage table" and "What a call says". Of each module, what only the module itself writes (`Private`) stands apart from what others
 // may touch (`Shared`). The stage table itself, in code, is the crate `row`.
+#![tactic(auto)]
+
 ghost use Rattle.std.specs.Prelude.{◌≡◌};
 ghost use Rattle.stage.specs.Answers.{answer_of, module_admitted, length_taken};
 ghost use Rattle.stage.specs.Rows.{goes, with_own, with_priority};
@@ -12,7 +14,7 @@ use link::Link;
 pub const LAST: u8 = 19;
 
 // What only the module itself writes.
-#[derive(Drop)]
+#[derive(Clone, Copy)]
 pub struct Private {
     pub stage: u8,
     pub own: u8,
@@ -22,7 +24,7 @@ pub struct Private {
 }
 
 // What other modules may touch.
-#[derive(Drop)]
+#[derive(Clone, Copy)]
 pub struct Shared {
     pub link: Link,
     pub priority: u8,
@@ -30,7 +32,7 @@ pub struct Shared {
 }
 
 // What happened, with the admitted module and the length of the log taken.
-#[derive(Drop)]
+#[derive(Clone, Copy)]
 pub enum Event {
     Done,
     Waiting,
@@ -43,21 +45,21 @@ pub enum Event {
 }
 
 // An accepted call's answer: 01's number for what happened, and what happened.
-#[derive(Drop)]
+#[derive(Clone, Copy)]
 pub struct Answer {
     pub number: u8,
     pub event: Event,
 }
 
 // What a call says: a refusal's number alone, or an answer.
-#[derive(Drop)]
+#[derive(Clone, Copy)]
 pub enum Reply {
     Refused(u8),
     Answered(Answer),
 }
 
 // What a step leaves: the module's private part, the shared part that it looked at, the lock word, and the answer.
-#[derive(Drop)]
+#[derive(Clone, Copy)]
 pub struct Stepped {
     pub me: Private,
     pub its: Shared,

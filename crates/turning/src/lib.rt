@@ -2,6 +2,8 @@
 //
 // What it writes for its input is `Program.output`. `answer` takes a block of the input and `finish` its end;
 // around them `run` only reads and writes, of which no contract can speak.
+#![tactic(auto)]
+
 ghost use Rattle.std.specs.Prelude.{◌≡◌, ◌+◌, ◌*◌, ◌≤◌, length};
 ghost use Rattle.lines.specs.Inside.{Put};
 ghost use Rattle.lines.specs.Text.{log_text};
@@ -14,14 +16,14 @@ use lines::Command;
 use stage::Reply;
 
 // How many bytes are kept of the line that has begun, and the place after the text that is written.
-#[derive(Drop)]
+#[derive(Clone, Copy)]
 struct Place {
     count: usize,
     at: usize,
 }
 
 // How many bytes are kept of the line that has begun, and whether the input is at its end.
-#[derive(Drop)]
+#[derive(Clone, Copy)]
 struct Round {
     count: usize,
     is_last: bool,

@@ -2,6 +2,8 @@
 // is 1, and the log has 256 entries.
 //
 // Each time is the listing: `a`, stages 1, 2, 19 and 3, `r`, stages 14, 15 and 16.
+#![tactic(auto)]
+
 fn main() {
     turning::run();
 }

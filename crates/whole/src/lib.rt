@@ -2,6 +2,8 @@
 //
 // 01, "What a call says" and "What each place should look like": the log is held as [0; 256] where an image is taken apart and written fresh.
 // The other calls are in `image`, whose definition of a call the contracts here cite.
+#![tactic(auto)]
+
 ghost use Rattle.std.specs.Prelude.{◌≡◌, true, [], ◌++◌, ◌+◌, ◌*◌, ◌≤◌, ◌<◌, length, take, drop};
 ghost use Rattle.std.proofs.Math.Seq.{paste};
 ghost use Rattle.stage.specs.Calls.{set_up, take_log, capacity};
