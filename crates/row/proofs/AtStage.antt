@@ -30,6 +30,7 @@ NoneOf [] k = Unit {0}
 NoneOf (j ∷ js) k = NoneOf js k × (k ≡ j → ⊥)
 
 none_among : (js : List ℕ) (k : ℕ) → NoneOf js k → T (among k js) → ⊥
+none_among [] k none t = elim t [ ]
 none_among (j ∷ js) k none t = one_of (eqb k j) (among k js) (λ e. none.1 (eqb-true k j e)) (none_among js k none.0) t
 
 -- each entry passes the test
@@ -69,6 +70,9 @@ own w's = false
 own s's = false
 
 own_is : (p : ℕ) (me : Private) (l : Looks) → T (own l) → p ≡ looked l p me
+own_is p me prev's t = elim t [ ]
+own_is p me w's t = elim t [ ]
+own_is p me s's t = elim t [ ]
 own_is p me itself t = refl
 
 pub at_itself : (p : ℕ) (me : Private) → NoneOf elsewhere me.stage → p ≡ looks_at p me
