@@ -1,0 +1,15 @@
+-- `put_reply` is the line of a refusal or of an answer.
+-- Assumes nothing.
+use mathlib.Core.Path.{ap}
+use borrow.Author.Rules.{rules}
+use Rattle.lines.specs.Text.{reply_text}
+use Rattle.lines.proofs.Putting.{writes_same}
+use Rattle.lines.proofs.put_reply.Goals as goal
+
+pub returns-in-Refused : goal.returns-in-Refused
+unfolding reply_text
+returns-in-Refused c = writes_same (ap reply_text c.reply-1.given.1) c.put_line.ensures
+
+pub returns-in-Answered : goal.returns-in-Answered
+unfolding reply_text
+returns-in-Answered c = writes_same (ap reply_text c.reply-in-Answered-1.given.1) c.put_line-in-Answered.ensures
