@@ -8,19 +8,14 @@ use borrow.Author.Tests.{leb-false}
 use lib.Dec.{leb}
 use denote.Enum.Declared.{tag_of}
 use Rattle.stage.specs.contracts.Event.{the_type}
-use types.Run.{OneOf, miss}
 use Rattle.stage.specs.Calls.{admits, capacity}
 use Rattle.stage.specs.declared.Event.{Event}
 use Rattle.stage.specs.declared.Event.TheVariants.{Done, Waiting, Admitted, Joined, Left, Finished, Taken, Nobody}
 
--- the places of the others among the variants
-abbrev others : List ℕ
-others = 0 ∷ 1 ∷ 3 ∷ 4 ∷ 5 ∷ 6 ∷ 7 ∷ []
-
-pub other : (e : Event) → OneOf others (tag_of the_type e) → admits e ≡ false
+pub other : (e : Event) → ((p : ℕ) → e ≡ Admitted p → ⊥) → admits e ≡ false
 other Done o = refl
 other Waiting o = refl
-other (Admitted p) o = absurd (miss others 2 tt o)
+other (Admitted p) o = absurd (o p refl)
 other Joined o = refl
 other Left o = refl
 other Finished o = refl

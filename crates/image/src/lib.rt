@@ -298,7 +298,7 @@ fn put_parts(image: &mut [u8], m: Module, l: Looked)
 // Stores all that a module's step leaves, its admission too.
 fn store(image: &mut [u8], m: Module, l: Looked)
     requires looks { Looks image.old m l }
-    requires held_value { (admits l.stepped.answer.event && leb capacity m.frame.held) ≡ false }
+    requires room { (admits l.stepped.answer.event && leb capacity m.frame.held) ≡ false }
     ensures { image.new ≡ put (after_step (next size) (read image.old) m.number) image.old }
 {
     put_parts(image, m, l);
@@ -412,7 +412,7 @@ fn replied(number: u8, said: u8) -> Reply
 // The first of the modules from p to the one before `end` that can step.
 fn first_able(image: &[u8], frame: Frame, p: u8, end: u8) -> Next
     requires framed { Framed image.now frame }
-    requires le_p { (1 ≤ p) × (p ≤ end) × (end ≤ frame.n + 1) }
+    requires ordered { (1 ≤ p) × (p ≤ end) × (end ≤ frame.n + 1) }
     ensures { Tells (first_able image.now p (end - p)) result }
 {
     let mut q = p;

@@ -1,7 +1,6 @@
 pub mod ByStage
 pub mod Events
 pub mod Every
-pub mod Others
 pub mod Refusing
 pub mod SoundCalls
 pub mod Soundly

@@ -17,15 +17,15 @@ past_end l k h = ap (λ (x : ℕ). eqb x 32) (get_or-eq_default l 0 h)
 
 pub returns-then-line-next : goal.returns-then-line-next
 unfolding parted
-returns-then-line-next c = found (parted _) c.first-1.given.1 (passed _ _ _ _ (past_end c.args.line.now _ c.if-line-next.true) refl)
+returns-then-line-next c = found (parted _) c.in-Read.is (passed _ _ _ _ (past_end c.args.line.now _ c.if-line-next.true) refl)
 
 pub returns-then-line-next-ne32 : goal.returns-then-line-next-ne32
 unfolding parted
-returns-then-line-next-ne32 c = found (parted _) c.first-1.given.1 (passed _ _ _ _ (ne_eqb _ _ c.if-line-next-ne32.true) refl)
+returns-then-line-next-ne32 c = found (parted _) c.in-Read.is (passed _ _ _ _ (ne_eqb _ _ c.if-line-next-ne32.true) refl)
 
 pub returns-else-line-next-ne32 : goal.returns-else-line-next-ne32
 unfolding parted
-returns-else-line-next-ne32 c = found (parted _) c.first-1.given.1 (taken _ _ _ _ (eq-eqb _ _ c.if-line-next-ne32.false) (c.of_two.ensures ∙ ap (of_two _) c.last_at.ensures))
+returns-else-line-next-ne32 c = found (parted _) c.in-Read.is (taken _ _ _ _ (eq-eqb _ _ c.if-line-next-ne32.false) (c.of_two.ensures ∙ ap (of_two _) c.last_at.ensures))
 
 pub returns-in-Nothing : goal.returns-in-Nothing
 unfolding parted

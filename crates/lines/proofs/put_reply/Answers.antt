@@ -8,8 +8,8 @@ use Rattle.lines.proofs.put_reply.Goals as goal
 
 pub returns-in-Refused : goal.returns-in-Refused
 unfolding reply_text
-returns-in-Refused c = writes_same (ap reply_text c.reply-1.given.1) c.put_line.ensures
+returns-in-Refused c = writes_same (ap reply_text c.in-Refused.is) c.put_line.ensures
 
 pub returns-in-Answered : goal.returns-in-Answered
 unfolding reply_text
-returns-in-Answered c = writes_same (ap reply_text c.reply-in-Answered-1.given.1) c.put_line-in-Answered.ensures
+returns-in-Answered c = writes_same (ap reply_text c.in-Answered.is) c.put_line-in-Answered.ensures

@@ -1,0 +1,22 @@
+-- `find` refuses an unsound image, then a number that is no module's; past both it has a module's number.
+-- Assumes nothing.
+use native.Mathlib.Omega.{arith}
+use borrow.Author.Rules.{rules}
+use Rattle.laws.proofs.Said.{said}
+use Rattle.layout.specs.Layout.{modules}
+use Rattle.image.proofs.Refusals.{too_low, too_high, unsound, no_module}
+use Rattle.image.proofs.find.Goals as goal
+
+pub returns-then-not-sound : goal.returns-then-not-sound
+returns-then-not-sound c = unsound _ _ _ (search said)
+
+pub frame_of-n-requires : goal.frame_of-n-requires
+frame_of-n-requires c = search said
+
+pub returns-then-p-lt1 : goal.returns-then-p-lt1
+returns-then-p-lt1 c = no_module _ _ _ (search said) (too_low _ _ _ c.if-p-lt1.true)
+
+pub returns-then-n-p : goal.returns-then-n-p
+returns-then-n-p c =
+    let start = c.args in
+    no_module _ _ _ (search said) (too_high 1 (modules start.image.now) start.p (omega arith))
