@@ -1,0 +1,7 @@
+-- `turned` says what `turn` says, packed, and leaves what it leaves.
+-- Assumes nothing.
+use borrow.Author.Rules.{rules}
+use Rattle.desk.proofs.turned.Goals as goal
+
+pub returns : goal.returns
+returns c = record { said = _; says = c.packed.ensures; holds = c.turn-t.ensures }
