@@ -4,16 +4,17 @@
 // around them `run` only reads and writes, of which no contract can speak.
 #![tactic(auto)]
 
-ghost use Rattle.std.specs.Prelude.{◌≡◌, ◌+◌, ◌*◌, ◌≤◌, length};
+ghost use Rattle.std.specs.Prelude.{◌≡◌, ◌+◌, ◌*◌, ◌≤◌, length, IfOk};
 ghost use Rattle.lines.specs.Inside.{Put};
 ghost use Rattle.lines.specs.Text.{log_text};
 ghost use Rattle.turning.specs.Inside.{fed, fed_all, finished, standing, taken_of};
 ghost use Rattle.turning.specs.Program.{held_log, end_text};
 ghost use Rattle.turning.specs.Turn.{Turns};
 
-use libc::{STDIN_FILENO, STDOUT_FILENO};
 use lines::Command;
 use stage::Reply;
+use std::io;
+use std::io::{Read, Write};
 
 // How many bytes are kept of the line that has begun, and the place after the text that is written.
 #[derive(Clone, Copy)]
@@ -129,52 +130,64 @@ fn finish(image: &mut [u8], line: &[u8], count: usize, out: &mut [u8]) -> usize
     put_end(image, out, end)
 }
 
-// Reads a block of input, if there is any more, and writes its answers. Where reading fails the input is at its end.
+// Reads a block of input, if there is any more, and writes its answers.
 fn answer_some(
+    rt: &HostRuntime,
     image: &mut [u8],
     line: &mut [u8],
     count: usize,
     block: &mut [u8],
     out: &mut [u8],
-) -> Round
+) -> io::Result<Round>
     requires { (length line.old ≡ 17) × (count ≤ 17) × (6 * length block.old ≤ length out.old) }
-    ensures { result.count ≤ 17 }
+    ensures { IfOk result (λ round. round.count ≤ 17) }
 {
-    let got = libc::read(STDIN_FILENO, block);
-    let n = io::count(got, block);
+    let n = rt.stdin().read(block)?;
     if n == 0 {
-        return Round {
+        return Ok(Round {
             count,
             is_last: true,
-        };
+        });
     }
     let place = answer(image, line, count, &block[0..n], out);
     let end = place.at;
-    io::write_all(STDOUT_FILENO, &out[0..end]);
-    Round {
+    rt.stdout().write_all(&out[0..end])?;
+    Ok(Round {
         count: place.count,
         is_last: false,
-    }
+    })
 }
 
 // Takes all of the input. A proved loop has to end, and nothing says that the input does: so it counts its turns down, from a number
 // that no run uses up.
-fn answer_all(image: &mut [u8], line: &mut [u8], out: &mut [u8]) -> usize
+fn answer_all(
+    rt: &HostRuntime,
+    image: &mut [u8],
+    line: &mut [u8],
+    out: &mut [u8],
+) -> io::Result<usize>
     requires { (length line.old ≡ 17) × (393216 ≤ length out.old) }
-    ensures { result ≤ 17 }
+    ensures { IfOk result (λ count. count ≤ 17) }
 {
-    let mut block = io::large_buffer();
+    let mut block = block_buffer();
     let mut count = 0;
     let mut turns = u64::MAX;
     while 0 < turns {
-        let round = answer_some(image, line, count, &mut block, out);
+        let round = answer_some(rt, image, line, count, &mut block, out)?;
         count = round.count;
         if round.is_last {
-            return count;
+            return Ok(count);
         }
         turns -= 1;
     }
-    count
+    Ok(count)
+}
+
+// Room for a block of input.
+fn block_buffer() -> [u8; 65536]
+    ensures { 65536 ≡ length result }
+{
+    [0u8; 65536]
 }
 
 // Room for the text of a block: at most six bytes for each of its own, were they all newlines.
@@ -184,12 +197,12 @@ fn text_buffer() -> [u8; 393216]
     [0u8; 393216]
 }
 
-// The program.
-pub fn run() {
+// The program. Where a read or a write fails it ends with that error.
+pub fn run(rt: &HostRuntime) -> io::Result<()> {
     let mut image = [0u8; 1292];
     let mut line = [0u8; 17];
     let mut out = text_buffer();
-    let count = answer_all(&mut image, &mut line, &mut out);
+    let count = answer_all(rt, &mut image, &mut line, &mut out)?;
     let end = finish(&mut image, &line, count, &mut out);
-    io::write_all(STDOUT_FILENO, &out[0..end]);
+    rt.stdout().write_all(&out[0..end])
 }

@@ -1,6 +1,8 @@
 // The program `turns` of 01. Its stdin and stdout here are 01's own listing, with the step that R-1 adds.
 #![tactic(auto)]
 
-fn main() {
-    turning::run();
+use std::io;
+
+fn main(rt: HostRuntime) -> io::Result<()> {
+    turning::run(&rt)
 }

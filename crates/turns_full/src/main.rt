@@ -4,6 +4,8 @@
 // Each time is the listing: `a`, stages 1, 2, 19 and 3, `r`, stages 14, 15 and 16.
 #![tactic(auto)]
 
-fn main() {
-    turning::run();
+use std::io;
+
+fn main(rt: HostRuntime) -> io::Result<()> {
+    turning::run(&rt)
 }

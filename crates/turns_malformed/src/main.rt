@@ -5,6 +5,8 @@
 // at 3 (one line has 16 bytes, one 17 and one 100,000), and the rest inside and after.
 #![tactic(auto)]
 
-fn main() {
-    turning::run();
+use std::io;
+
+fn main(rt: HostRuntime) -> io::Result<()> {
+    turning::run(&rt)
 }

@@ -6,6 +6,8 @@
 // 9 (priority 5) passes 10, its equal: 1, 2, 4, 5, 6, 7, 5, 6, 8, 9, 11, 12. A release with a successor goes through 14 to 18.
 #![tactic(auto)]
 
-fn main() {
-    turning::run();
+use std::io;
+
+fn main(rt: HostRuntime) -> io::Result<()> {
+    turning::run(&rt)
 }

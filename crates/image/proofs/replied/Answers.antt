@@ -31,7 +31,7 @@ returns-in-5 c = simp c.in-5.is
 
 pub returns-in_default : goal.returns-in_default
 unfolding replied
-returns-in_default c = 
+returns-in_default c =
     simp (
       ne_eqb c.args.said 0 (search rules),
       ne_eqb c.args.said 1 (search rules),

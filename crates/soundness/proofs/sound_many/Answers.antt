@@ -17,24 +17,22 @@ loop-p-init c = (search rules, refl, refl)
 
 pub farther-off-requires : goal.farther-off-requires
 unfolding each
-farther-off-requires c =
-    (
-      omega arith,
-      at_most 64 least_rows _ _ _ tt c.least_rows-lows.ensures c.wide.ensures.0,
-      omega arith,
-    )
+farther-off-requires c = (
+  omega arith,
+  at_most 64 least_rows _ _ _ tt c.least_rows-lows.ensures c.wide.ensures.0,
+  omega arith,
+)
 
 pub loop-p-preserved : goal.loop-p-preserved
-loop-p-preserved c =
-    (
-      omega arith,
-      records_more _ _ _ _ _ _ _ _ _ _ _ _ c.type_inv.image
-          c.least-least.ensures c.greatest-greatest.ensures c.least_rows-lows.ensures
-          c.wide-stage.ensures.0 c.wide.ensures.0
-          (c.wide-in-loop-p.ensures.0 ∙ c.lesser.ensures)
-          c.loop-p.invariant.1 c.farther-off.ensures,
-      search rules,
-    )
+loop-p-preserved c = (
+  omega arith,
+  records_more _ _ _ _ _ _ _ _ _ _ _ _ c.type_inv.image
+      c.least-least.ensures c.greatest-greatest.ensures c.least_rows-lows.ensures
+      c.wide-stage.ensures.0 c.wide.ensures.0
+      (c.wide-in-loop-p.ensures.0 ∙ c.lesser.ensures)
+      c.loop-p.invariant.1 c.farther-off.ensures,
+  search rules,
+)
 
 pub returns : goal.returns
 returns c =

@@ -12,18 +12,16 @@ pub returns-then-not-lies-2 : goal.returns-then-not-lies-2
 returns-then-not-lies-2 c = not_there _ _ _ _ _ (said_no _ _ c.lies-2.ensures c.if-not-lies-2.true-raw)
 
 pub same_in_place-requires : goal.same_in_place-requires
-same_in_place-requires c =
-    (
-      within _ _ (said_yes _ _ c.lies.ensures c.if-not-lies.false-raw),
-      within _ _ (said_yes _ _ c.lies-2.ensures c.if-not-lies-2.false-raw),
-    )
+same_in_place-requires c = (
+  within _ _ (said_yes _ _ c.lies.ensures c.if-not-lies.false-raw),
+  within _ _ (said_yes _ _ c.lies-2.ensures c.if-not-lies-2.false-raw),
+)
 
 pub hand_back-requires : goal.hand_back-requires
-hand_back-requires c =
-    (
-      within _ _ (said_yes _ _ c.lies.ensures c.if-not-lies.false-raw),
-      within _ _ (said_yes _ _ c.lies-2.ensures c.if-not-lies-2.false-raw),
-    )
+hand_back-requires c = (
+  within _ _ (said_yes _ _ c.lies.ensures c.if-not-lies.false-raw),
+  within _ _ (said_yes _ _ c.lies-2.ensures c.if-not-lies-2.false-raw),
+)
 
 pub returns-then-not-same_in_place : goal.returns-then-not-same_in_place
 returns-then-not-same_in_place c =
