@@ -57,7 +57,6 @@ quietly() { # COMMAND..: what it says is shown only if it fails; $said keeps it
 
 build() { # for each kind of machine the archive, the program turns, and the programs on the archive
   local kind
-  (cd "$root" && quietly rt check desk turns) # side by side, where one does not stand on the other
   for kind in "${kinds[@]}"; do
     quietly bash "$root/rust/archive" "$archives/$kind" "$kind"
     quietly bash "$root/rust/archive" "$archives/$kind" "$kind" turns

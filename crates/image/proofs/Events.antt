@@ -6,8 +6,6 @@ use mathlib.Core.List.{List, [], ◌∷◌}
 use Prim.Native.Nat.{ℕ, ◌<◌}
 use borrow.Author.Tests.{leb-false}
 use lib.Dec.{leb}
-use denote.Enum.Declared.{tag_of}
-use Rattle.stage.specs.contracts.Event.{the_type}
 use Rattle.stage.specs.Calls.{admits, capacity}
 use Rattle.stage.specs.declared.Event.{Event}
 use Rattle.stage.specs.declared.Event.TheVariants.{Done, Waiting, Admitted, Joined, Left, Finished, Taken, Nobody}

@@ -208,6 +208,7 @@ fn place(first: usize, p: u8) -> usize
 }
 
 // The module that is named, or the refusal of an unsound image, or `unknown` for a number that is no module's.
+#[tactic(auto, using(crate::proofs::Refusals::no_module, crate::proofs::Refusals::too_low, crate::proofs::Refusals::too_high, laws::proofs::Said::said))]
 fn find(image: &[u8], p: u32, unknown: u8) -> Found
     ensures { Finds image.now p unknown result }
 {
@@ -311,6 +312,12 @@ fn store(image: &mut [u8], m: Module, l: Looked)
     }
 }
 
+// The greatest priority that an acquisition may begin with, and the stage of a module that is inside. They have names so that the tests by
+// them keep the names of their goals in a wrong program.
+const GREATEST: u32 = 254;
+
+const INSIDE: u8 = 13;
+
 // Begins an acquisition by a module that was found.
 fn begin_acquisition_of(image: &mut [u8], m: Module, priority: u32) -> Reply
     requires { IsModule image.old m }
@@ -319,7 +326,7 @@ fn begin_acquisition_of(image: &mut [u8], m: Module, priority: u32) -> Reply
     if priority < 1 {
         return Reply::Refused(3);
     }
-    if 254 < priority {
+    if GREATEST < priority {
         return Reply::Refused(3);
     }
     let stage = m.me.stage;
@@ -339,7 +346,7 @@ fn begin_release_of(image: &mut [u8], m: Module) -> Reply
     ensures { Does (begin_release m.number) image.old result image.new }
 {
     let stage = m.me.stage;
-    if stage != 13 {
+    if stage != INSIDE {
         return Reply::Refused(4);
     }
     put_private(image, m.at, stage::begun_release(m.me));

@@ -329,7 +329,8 @@ pub fn put_log(out: &mut [u8], at: usize, entries: &[u8]) -> usize
         return at;
     }
     let room = out.len() - at;
-    if room < 4 {
+    let is_short = room < 4;
+    if is_short {
         return at;
     }
     if !entries_fit(entries, room - 4) {

@@ -13,6 +13,7 @@ use link::{Link, Swapped};
 use stage::{Answer, Private, Shared, Stepped};
 
 // Whose shared part the module p looks at in its step.
+#[tactic(auto, using(crate::proofs::AtStage::tests), unfolding(stage::specs::Rows::find, stage::specs::Rows::rows))]
 pub fn looks_at(me: Private, p: u8) -> u8
     ensures { result ≡ looks_at p me }
 {
@@ -40,6 +41,7 @@ pub struct After {
 }
 
 // What follows a swap at stage 9: it was done, or it failed and found a link with this mark.
+#[tactic(auto, using(crate::proofs::AfterSwap::done, crate::proofs::AfterSwap::failed))]
 pub fn after_swap(done: bool, mark: u8) -> After
     ensures { Follows done mark result }
 {
@@ -56,6 +58,7 @@ pub fn after_swap(done: bool, mark: u8) -> After
 }
 
 // One step of the module p: the row of its stage. At 0 and 13, and at a number that is no stage, there is none.
+#[tactic(auto, using(crate::proofs::AtStage::tests), unfolding(stage::specs::Rows::find, stage::specs::Rows::rows))]
 pub fn step(p: u8, me: Private, its: Shared, mut lock: u8) -> Stepped
     ensures { result ≡ stepped (next size) p me its lock }
 {

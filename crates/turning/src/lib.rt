@@ -4,7 +4,7 @@
 // around them `run` only reads and writes, of which no contract can speak.
 #![tactic(auto)]
 
-ghost use Rattle.std.specs.Prelude.{◌≡◌, ◌+◌, ◌*◌, ◌≤◌, length, IfOk};
+ghost use Rattle.std.specs.Prelude.{◌≡◌, ◌+◌, ◌*◌, ◌≤◌, length};
 ghost use Rattle.lines.specs.Inside.{Put};
 ghost use Rattle.lines.specs.Text.{log_text};
 ghost use Rattle.turning.specs.Inside.{fed, fed_all, finished, standing, taken_of};
@@ -13,7 +13,6 @@ ghost use Rattle.turning.specs.Turn.{Turns};
 
 use lines::Command;
 use stage::Reply;
-use std::io;
 use std::io::{Read, Write};
 
 // How many bytes are kept of the line that has begun, and the place after the text that is written.
@@ -122,7 +121,8 @@ fn finish(image: &mut [u8], line: &[u8], count: usize, out: &mut [u8]) -> usize
     requires { (count ≤ length line.now) × (1043 ≤ length out.old) }
     ensures { Put (finished (standing image.old line.now count out.old 0)) out.old 0 result out.new }
 {
-    if count == 0 {
+    let is_empty = count == 0;
+    if is_empty {
         return put_end(image, out, 0);
     }
     let reply = turn(image, &line[0..count]);
@@ -130,57 +130,77 @@ fn finish(image: &mut [u8], line: &[u8], count: usize, out: &mut [u8]) -> usize
     put_end(image, out, end)
 }
 
-// Reads a block of input, if there is any more, and writes its answers.
-fn answer_some(
-    rt: &HostRuntime,
+// Reads a block of input, if there is any more, and writes its answers. Where reading fails the input is at its end.
+fn answer_some<R: Read, W: Write>(
+    input: &mut R,
+    output: &mut W,
     image: &mut [u8],
     line: &mut [u8],
     count: usize,
     block: &mut [u8],
     out: &mut [u8],
-) -> io::Result<Round>
+) -> Round
     requires { (length line.old ≡ 17) × (count ≤ 17) × (6 * length block.old ≤ length out.old) }
-    ensures { IfOk result (λ round. round.count ≤ 17) }
+    ensures { result.count ≤ 17 }
 {
-    let n = rt.stdin().read(block)?;
+    let n = read_some(input, block);
     if n == 0 {
-        return Ok(Round {
+        return Round {
             count,
             is_last: true,
-        });
+        };
     }
     let place = answer(image, line, count, &block[0..n], out);
     let end = place.at;
-    rt.stdout().write_all(&out[0..end])?;
-    Ok(Round {
+    write_all(output, &out[0..end]);
+    Round {
         count: place.count,
         is_last: false,
-    })
+    }
+}
+
+// How many bytes of input were put at the front of the block: none at the end of the input, and none where reading fails.
+fn read_some<R: Read>(input: &mut R, block: &mut [u8]) -> usize
+    ensures { result ≤ length block.new }
+{
+    match input.read(block) {
+        Ok(n) => n,
+        Err(_) => 0,
+    }
+}
+
+// Writes the text. Where writing fails there is nobody to tell.
+fn write_all<W: Write>(output: &mut W, text: &[u8]) {
+    match output.write_all(text) {
+        Ok(()) => {}
+        Err(_) => {}
+    }
 }
 
 // Takes all of the input. A proved loop has to end, and nothing says that the input does: so it counts its turns down, from a number
 // that no run uses up.
-fn answer_all(
-    rt: &HostRuntime,
+fn answer_all<R: Read, W: Write>(
+    input: &mut R,
+    output: &mut W,
     image: &mut [u8],
     line: &mut [u8],
     out: &mut [u8],
-) -> io::Result<usize>
+) -> usize
     requires { (length line.old ≡ 17) × (393216 ≤ length out.old) }
-    ensures { IfOk result (λ count. count ≤ 17) }
+    ensures { result ≤ 17 }
 {
     let mut block = block_buffer();
     let mut count = 0;
     let mut turns = u64::MAX;
     while 0 < turns {
-        let round = answer_some(rt, image, line, count, &mut block, out)?;
+        let round = answer_some(input, output, image, line, count, &mut block, out);
         count = round.count;
         if round.is_last {
-            return Ok(count);
+            return count;
         }
         turns -= 1;
     }
-    Ok(count)
+    count
 }
 
 // Room for a block of input.
@@ -197,12 +217,12 @@ fn text_buffer() -> [u8; 393216]
     [0u8; 393216]
 }
 
-// The program. Where a read or a write fails it ends with that error.
-pub fn run(rt: &HostRuntime) -> io::Result<()> {
+// The program, on the input that it reads and the output that it writes.
+pub fn run<R: Read, W: Write>(input: &mut R, output: &mut W) {
     let mut image = [0u8; 1292];
     let mut line = [0u8; 17];
     let mut out = text_buffer();
-    let count = answer_all(rt, &mut image, &mut line, &mut out)?;
+    let count = answer_all(input, output, &mut image, &mut line, &mut out);
     let end = finish(&mut image, &line, count, &mut out);
-    rt.stdout().write_all(&out[0..end])
+    write_all(output, &out[0..end]);
 }

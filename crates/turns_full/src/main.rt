@@ -4,8 +4,6 @@
 // Each time is the listing: `a`, stages 1, 2, 19 and 3, `r`, stages 14, 15 and 16.
 #![tactic(auto)]
 
-use std::io;
-
-fn main(rt: HostRuntime) -> io::Result<()> {
-    turning::run(&rt)
+fn main(rt: HostRuntime) {
+    turning::run(&mut rt.stdin(), &mut rt.stdout());
 }

@@ -5,8 +5,6 @@
 // at 3 (one line has 16 bytes, one 17 and one 100,000), and the rest inside and after.
 #![tactic(auto)]
 
-use std::io;
-
-fn main(rt: HostRuntime) -> io::Result<()> {
-    turning::run(&rt)
+fn main(rt: HostRuntime) {
+    turning::run(&mut rt.stdin(), &mut rt.stdout());
 }

@@ -6,8 +6,6 @@
 // 9 (priority 5) passes 10, its equal: 1, 2, 4, 5, 6, 7, 5, 6, 8, 9, 11, 12. A release with a successor goes through 14 to 18.
 #![tactic(auto)]
 
-use std::io;
-
-fn main(rt: HostRuntime) -> io::Result<()> {
-    turning::run(&rt)
+fn main(rt: HostRuntime) {
+    turning::run(&mut rt.stdin(), &mut rt.stdout());
 }

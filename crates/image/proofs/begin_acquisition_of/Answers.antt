@@ -9,14 +9,14 @@ use Rattle.image.proofs.begin_acquisition_of.Goals as goal
 pub returns-then-priority-lt1 : goal.returns-then-priority-lt1
 returns-then-priority-lt1 c = no_priority _ _ c.requires _ (too_low _ _ _ c.if-priority-lt1.true)
 
-pub returns-then-priority-gt254 : goal.returns-then-priority-gt254
-returns-then-priority-gt254 c = no_priority _ _ c.requires _ (too_high _ _ _ c.if-priority-gt254.true)
+pub returns-then-priority-gt-GREATEST : goal.returns-then-priority-gt-GREATEST
+returns-then-priority-gt-GREATEST c = no_priority _ _ c.requires _ (too_high _ _ _ c.if-priority-gt-GREATEST.true)
 
 pub returns-then-stage-ne0 : goal.returns-then-stage-ne0
-returns-then-stage-ne0 c = not_idle _ _ c.requires _ c.if-priority-lt1.false c.if-priority-gt254.false c.if-stage-ne0.true
+returns-then-stage-ne0 c = not_idle _ _ c.requires _ c.if-priority-lt1.false c.if-priority-gt-GREATEST.false c.if-stage-ne0.true
 
 pub returns : goal.returns
 returns c =
-    acquires _ _ c.requires _ c.if-priority-lt1.false c.if-priority-gt254.false c.if-stage-ne0.false
+    acquires _ _ c.requires _ c.if-priority-lt1.false c.if-priority-gt-GREATEST.false c.if-stage-ne0.false
     (acquisition_begun _ _ c.requires (λ i. (c.slice_known-1.given i).fits) _ _ _ _ c.begun_acquisition.ensures c.shared_at-its.ensures c.with_priority.ensures
     c.put_private.ensures c.put_shared.ensures)

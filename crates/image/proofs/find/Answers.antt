@@ -12,11 +12,3 @@ returns-then-not-sound c = unsound _ _ _ (search said)
 
 pub frame_of-n-requires : goal.frame_of-n-requires
 frame_of-n-requires c = search said
-
-pub returns-then-p-lt1 : goal.returns-then-p-lt1
-returns-then-p-lt1 c = no_module _ _ _ (search said) (too_low _ _ _ c.if-p-lt1.true)
-
-pub returns-then-n-p : goal.returns-then-n-p
-returns-then-n-p c =
-    let start = c.args in
-    no_module _ _ _ (search said) (too_high 1 (modules start.image.now) start.p (omega arith))

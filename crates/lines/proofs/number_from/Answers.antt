@@ -1,4 +1,4 @@
--- `number_from` makes the tests of `number_from` in its order.
+-- `number_from` makes the tests of the definition of that name in its order.
 -- Assumes nothing.
 use borrow.Author.Rules.{rules}
 use borrow.Author.Tests.{ne_eqb}

@@ -1,4 +1,4 @@
--- `sound_link` makes the tests of `sound_link`, in their order.
+-- `sound_link` makes the tests of the definition of that name, in their order.
 -- Assumes nothing.
 use Rattle.laws.proofs.Said.{said}
 use Rattle.stage.specs.Sound.{sound_link}

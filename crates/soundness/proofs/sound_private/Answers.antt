@@ -1,4 +1,4 @@
--- `sound_private` makes the tests of `sound_private`, in their order.
+-- `sound_private` makes the tests of the definition of that name, in their order.
 -- Assumes nothing.
 use borrow.Author.Rules.{rules}
 use Rattle.laws.proofs.Said.{said}

@@ -1,4 +1,4 @@
--- `sound_shared` makes the tests of `sound_shared`, in their order.
+-- `sound_shared` makes the tests of the definition of that name, in their order.
 -- Assumes nothing.
 use borrow.Author.Rules.{rules}
 use Rattle.laws.proofs.Said.{said}
