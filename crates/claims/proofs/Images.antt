@@ -25,7 +25,7 @@ use Rattle.layout.specs.Layout.{length_for, record_at, private_at, shared_at, re
 use Rattle.soundness.specs.SoundImage.{sound}
 use Rattle.image.proofs.Sound as Sound
 use Rattle.image.proofs.Sound.{put_sound}
-use Rattle.image.specs.Call.{fits, refused, reply, image}
+use Rattle.image.specs.Call.{refused, reply, image}
 
 -- what stands outside 1 to n stays where a module's part is changed
 pub outside : {A : Type 0} (f : ℕ → A) (n p : ℕ) (v other : A) → 1 ≤ p → p ≤ n

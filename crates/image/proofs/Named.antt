@@ -15,7 +15,7 @@ use Rattle.stage.specs.declared.Answer.{Answer}
 use Rattle.stage.specs.declared.Event.TheVariants.{Done}
 use Rattle.stage.specs.declared.Private.{Private}
 use Rattle.stage.specs.declared.Reply.TheVariants.{Refused, Answered}
-use Rattle.layout.specs.Layout.{held, read, put}
+use Rattle.layout.specs.Layout.{read, put}
 use Rattle.image.specs.Call.{refused, Does}
 use Rattle.image.specs.Inside.{given, unfound, IsNumber, IsModule, Looks}
 use Rattle.image.specs.declared.Module.{Module}

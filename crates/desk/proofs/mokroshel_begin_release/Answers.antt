@@ -1,6 +1,5 @@
 -- `mokroshel_begin_release` says what `begin_release` says, packed, and leaves what it leaves.
 -- Assumes nothing.
-use borrow.Author.Rules.{rules}
 use Rattle.desk.proofs.Said.{said}
 use Rattle.desk.proofs.mokroshel_begin_release.Goals as goal
 

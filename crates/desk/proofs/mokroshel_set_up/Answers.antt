@@ -1,6 +1,5 @@
 -- `mokroshel_set_up` says what `set_up` says, packed, and leaves what it leaves.
 -- Assumes nothing.
-use borrow.Author.Rules.{rules}
 use Rattle.desk.proofs.Said.{said}
 use Rattle.desk.proofs.mokroshel_set_up.Goals as goal
 

@@ -1,6 +1,5 @@
 -- `mokroshel_step` says what `step` says, packed, and leaves what it leaves.
 -- Assumes nothing.
-use borrow.Author.Rules.{rules}
 use Rattle.desk.proofs.Said.{said}
 use Rattle.desk.proofs.mokroshel_step.Goals as goal
 

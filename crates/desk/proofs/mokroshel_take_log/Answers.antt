@@ -1,6 +1,5 @@
 -- `mokroshel_take_log` says what `take_log` says, packed, and leaves what it leaves.
 -- Assumes nothing.
-use borrow.Author.Rules.{rules}
 use Rattle.desk.proofs.Said.{said}
 use Rattle.desk.proofs.mokroshel_take_log.Goals as goal
 

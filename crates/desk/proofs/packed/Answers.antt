@@ -1,6 +1,5 @@
 -- `packed` is what the definition has, for a refusal and for an answer.
 -- Assumes nothing.
-use borrow.Author.Rules.{rules}
 use Rattle.desk.proofs.Said.{refusal, answer}
 use Rattle.desk.proofs.packed.Goals as goal
 

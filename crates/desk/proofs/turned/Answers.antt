@@ -1,6 +1,5 @@
 -- `turned` says what `turn` says, packed, and leaves what it leaves.
 -- Assumes nothing.
-use borrow.Author.Rules.{rules}
 use Rattle.desk.proofs.turned.Goals as goal
 
 pub returns : goal.returns

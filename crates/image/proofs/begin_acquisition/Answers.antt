@@ -1,6 +1,5 @@
 -- `begin_acquisition` refuses what `find` refuses, and is `begin_acquisition_of` for the module found.
 -- Assumes nothing.
-use borrow.Author.Rules.{rules}
 use Rattle.stage.specs.Calls
 use Rattle.image.proofs.Modules.{was_refused, was_found, by_number}
 use Rattle.image.proofs.Named.{acquisition_refused}

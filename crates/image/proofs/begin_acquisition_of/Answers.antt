@@ -1,6 +1,5 @@
 -- `begin_acquisition_of` refuses a priority, then a stage; past both it stores the two parts begun.
 -- Assumes nothing.
-use borrow.Author.Rules.{rules}
 use Rattle.image.proofs.Named.{no_priority, not_idle, acquires}
 use Rattle.image.proofs.Refusals.{too_low, too_high}
 use Rattle.image.proofs.Stored.{acquisition_begun}

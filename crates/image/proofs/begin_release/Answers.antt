@@ -1,6 +1,5 @@
 -- `begin_release` refuses what `find` refuses, and is `begin_release_of` for the module found.
 -- Assumes nothing.
-use borrow.Author.Rules.{rules}
 use Rattle.stage.specs.Calls
 use Rattle.image.proofs.Modules.{was_refused, was_found, by_number}
 use Rattle.image.proofs.Named.{release_refused}

@@ -1,6 +1,5 @@
 -- `begin_release_of` refuses a stage; past it, it stores the private part begun.
 -- Assumes nothing.
-use borrow.Author.Rules.{rules}
 use Rattle.image.proofs.Named.{not_inside, releases}
 use Rattle.image.proofs.Stored.{release_begun}
 use Rattle.image.proofs.begin_release_of.Goals as goal

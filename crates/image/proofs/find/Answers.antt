@@ -1,10 +1,7 @@
 -- `find` refuses an unsound image, then a number that is no module's; past both it has a module's number.
 -- Assumes nothing.
-use native.Mathlib.Omega.{arith}
-use borrow.Author.Rules.{rules}
 use Rattle.laws.proofs.Said.{said}
-use Rattle.layout.specs.Layout.{modules}
-use Rattle.image.proofs.Refusals.{too_low, too_high, unsound, no_module}
+use Rattle.image.proofs.Refusals.{unsound}
 use Rattle.image.proofs.find.Goals as goal
 
 pub returns-then-not-sound : goal.returns-then-not-sound

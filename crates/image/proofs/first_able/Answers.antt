@@ -1,11 +1,8 @@
 -- `first_able` has passed nobody who can step.
 -- Assumes nothing.
-use mathlib.Core.Path.{◌≡◌, refl, sym, ◌∙◌, ap}
+use mathlib.Core.Path.{refl, sym, ◌∙◌, ap}
 use mathlib.Core.Bool.{not}
-use Prim.Native.Nat.{◌-◌, ◌≤◌}
 use native.Mathlib.Omega.{arith}
-use borrow.Author.Rules.{rules}
-use Rattle.image.specs.Inside.{first_able}
 use Rattle.image.proofs.Turns.{none_left, passes, skips, rests_at}
 use Rattle.image.proofs.first_able.Goals as goal
 

@@ -1,11 +1,7 @@
 -- `first_able` has passed nobody who can step.
-use mathlib.Core.Path.{◌≡◌, refl, sym, ◌∙◌, ap}
-use mathlib.Core.Bool.{not}
+use mathlib.Core.Path.{◌≡◌}
 use Prim.Native.Nat.{◌-◌, ◌≤◌}
-use native.Mathlib.Omega.{arith}
-use borrow.Author.Rules.{rules}
 use Rattle.image.specs.Inside.{first_able}
-use Rattle.image.proofs.Turns.{none_left, passes, skips, rests_at}
 use Rattle.image.proofs.first_able.Given as goal
 
 abbrev pub invariant-loop-q : goal.invariant-loop-q

@@ -2,7 +2,6 @@
 -- Assumes nothing.
 use mathlib.Core.Path.{refl}
 use native.Mathlib.Omega.{arith}
-use borrow.Author.Rules.{rules}
 use Rattle.layout.specs.Layout.{held, read}
 use Rattle.image.proofs.Sound.{written, table}
 use Rattle.image.proofs.frame_of.Goals as goal

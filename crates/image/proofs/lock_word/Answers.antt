@@ -4,7 +4,6 @@ use mathlib.Core.Path.{◌≡◌, refl, ap}
 use mathlib.Core.Bool.{false}
 use mathlib.Core.List.{List}
 use Prim.Native.Nat.{ℕ}
-use borrow.Author.Rules.{rules}
 use Rattle.laws.proofs.Said.{said, taken, passed}
 use Rattle.layout.specs.Layout.{byte, read}
 use Rattle.soundness.specs.SoundImage.{sound}

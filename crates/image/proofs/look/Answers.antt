@@ -1,7 +1,6 @@
 -- `look` runs the stage table's row on the one shared part that it looks at, which is a module's.
 -- Assumes nothing.
 use native.Mathlib.Omega.{arith}
-use borrow.Author.Rules.{rules}
 use Rattle.image.proofs.Modules.{sees, looks}
 use Rattle.image.proofs.look.Goals as goal
 

@@ -1,7 +1,6 @@
 -- `moved` moves the marker on where the step was accepted.
 -- Assumes nothing.
 use mathlib.Core.Path.{refl, sym, ap}
-use borrow.Author.Rules.{rules}
 use Rattle.image.specs.Turn.{moved}
 use Rattle.image.proofs.moved.Goals as goal
 

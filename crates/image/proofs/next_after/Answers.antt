@@ -1,6 +1,5 @@
 -- `next_after` asks the modules after the marker, and then those up to it.
 -- Assumes nothing.
-use borrow.Author.Rules.{rules}
 use Rattle.image.proofs.Turns.{is_after, is_before}
 use Rattle.image.proofs.next_after.Goals as goal
 

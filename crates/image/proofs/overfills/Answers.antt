@@ -1,6 +1,5 @@
 -- `overfills` is true for an admission alone, and then where 256 entries are held.
 -- Assumes nothing.
-use borrow.Author.Rules.{rules}
 use Rattle.image.proofs.Events.{other}
 use Rattle.image.proofs.overfills.Goals as goal
 

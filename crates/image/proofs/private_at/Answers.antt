@@ -1,6 +1,5 @@
 -- `private_at` reads the bytes that the definition names.
 -- Assumes nothing.
-use borrow.Author.Rules.{rules}
 use Rattle.layout.specs.Layout.{private_at}
 use Rattle.image.proofs.private_at.Goals as goal
 

@@ -1,7 +1,6 @@
 -- `put_length` stores the two bytes of the log length at their places in the trailer.
 -- Assumes nothing.
 use native.Mathlib.Omega.{arith}
-use borrow.Author.Rules.{rules}
 use lib.ListN.{length-set}
 use Rattle.image.proofs.put_length.Goals as goal
 

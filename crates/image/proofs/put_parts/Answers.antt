@@ -1,8 +1,5 @@
 -- `put_parts` stores the private part, then the shared part, then the lock word.
 -- Assumes nothing.
-use native.Mathlib.Omega.{arith}
-use borrow.Author.Rules.{rules}
-use lib.ListN.{length-set}
 use Rattle.image.proofs.Stored.{three_stored}
 use Rattle.image.proofs.put_parts.Goals as goal
 

@@ -1,6 +1,5 @@
 -- `put_private` stores each byte of a private part at its place in the record.
 -- Assumes nothing.
-use borrow.Author.Rules.{rules}
 use native.Mathlib.Nat.{add-zero}
 use native.Mathlib.Omega.{arith}
 use lib.ListN.{length-set}

@@ -1,6 +1,5 @@
 -- `put_shared` stores each byte of a shared part at its place in the record.
 -- Assumes nothing.
-use borrow.Author.Rules.{rules}
 use native.Mathlib.Omega.{arith}
 use lib.ListN.{length-set}
 use Rattle.image.proofs.put_shared.Goals as goal

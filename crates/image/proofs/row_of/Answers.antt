@@ -2,7 +2,6 @@
 -- Assumes nothing.
 use mathlib.Core.Path.{sym, ◌∙◌}
 use Rattle.image.proofs.Replies.{row_full, row_steps}
-use borrow.Author.Rules.{rules}
 use Rattle.image.proofs.row_of.Goals as goal
 
 pub returns-then-overfills : goal.returns-then-overfills

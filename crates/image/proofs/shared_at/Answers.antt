@@ -1,6 +1,5 @@
 -- `shared_at` reads the bytes that the definition names.
 -- Assumes nothing.
-use borrow.Author.Rules.{rules}
 use Rattle.layout.specs.Layout.{shared_at}
 use Rattle.image.proofs.shared_at.Goals as goal
 

@@ -6,7 +6,6 @@ use Rattle.image.proofs.Modules.{was_refused, was_found, by_number}
 use Rattle.image.proofs.Named.{step_refused}
 use Rattle.image.proofs.Refusals.{not_found}
 use Rattle.image.proofs.Replies.{by_reply}
-use borrow.Author.Rules.{rules}
 use Rattle.image.proofs.step.Goals as goal
 
 pub step_of-requires : goal.step_of-requires

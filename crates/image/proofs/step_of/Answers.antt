@@ -6,7 +6,6 @@ use Rattle.layout.specs.Layout.{byte, record_at}
 use Rattle.image.specs.Inside.{replied}
 use Rattle.image.proofs.Named.{no_step}
 use Rattle.image.proofs.Turns.{rests_at}
-use borrow.Author.Rules.{rules}
 use Rattle.image.proofs.step_of.Goals as goal
 
 pub returns-then-rests : goal.returns-then-rests

@@ -1,7 +1,6 @@
 -- What `store` leaves is the image of the table after the step, with an admission and without one.
 -- Assumes nothing.
 use native.Mathlib.Omega.{arith}
-use borrow.Author.Rules.{rules}
 use Rattle.image.proofs.Events.{other, room_for}
 use Rattle.image.proofs.Stored.{kept_put, admitted_put}
 use Rattle.image.proofs.store.Goals as goal

@@ -3,7 +3,6 @@
 use mathlib.Core.Path.{refl}
 use native.Mathlib.Omega.{arith}
 use Rattle.image.proofs.Swapping.{prev_read, step_there}
-use borrow.Author.Rules.{rules}
 use Rattle.image.proofs.swap_of.Goals as goal
 
 pub place-requires : goal.place-requires

@@ -2,7 +2,6 @@
 -- Assumes nothing.
 use Rattle.image.proofs.Modules.{was_refused, was_found, is_named}
 use Rattle.image.proofs.Turns.{no_turn, marked}
-use borrow.Author.Rules.{rules}
 use Rattle.image.proofs.turn.Goals as goal
 
 pub turn_after-requires : goal.turn_after-requires

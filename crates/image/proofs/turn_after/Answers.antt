@@ -2,7 +2,6 @@
 -- Assumes nothing.
 use Rattle.image.proofs.Replies.{by_reply}
 use Rattle.image.proofs.Turns.{nobody_steps, steps, is_known}
-use borrow.Author.Rules.{rules}
 use Rattle.image.proofs.turn_after.Goals as goal
 
 pub step_of-requires : goal.step_of-requires

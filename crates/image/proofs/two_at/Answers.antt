@@ -1,6 +1,5 @@
 -- `two_at` is the definition's number of two bytes.
 -- Assumes nothing.
-use borrow.Author.Rules.{rules}
 use Rattle.layout.specs.Layout.{two}
 use Rattle.image.proofs.two_at.Goals as goal
 

@@ -1,6 +1,6 @@
 -- `change_in_place` stores the pointer, the mark and the two bytes of the next count.
 -- Assumes nothing.
-use Rattle.std.proofs.Common.{arith, length-set, rules}
+use Rattle.std.proofs.Common.{arith, length-set}
 use Rattle.link.specs.Operations.{changed}
 use Rattle.inplace.specs.InPlace.{link_at, link_put}
 use Rattle.inplace.proofs.change_in_place.Goals as goal

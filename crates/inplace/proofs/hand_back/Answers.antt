@@ -1,6 +1,6 @@
 -- `hand_back` stores the four bytes of a link at another place.
 -- Assumes nothing.
-use Rattle.std.proofs.Common.{arith, length-set, rules}
+use Rattle.std.proofs.Common.{arith, length-set}
 use Rattle.inplace.proofs.Swapping.{put_bytes}
 use Rattle.inplace.proofs.hand_back.Goals as goal
 

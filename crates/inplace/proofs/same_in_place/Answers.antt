@@ -1,6 +1,5 @@
 -- `same_in_place` compares the four bytes one by one.
 -- Assumes nothing.
-use Rattle.std.proofs.Common.{rules}
 use Rattle.laws.proofs.Said.{said}
 use Rattle.inplace.proofs.Swapping.{by_bytes}
 use Rattle.inplace.proofs.same_in_place.Goals as goal

@@ -1,7 +1,6 @@
 -- `by_letter` makes the two tests of `by_letter`.
 -- Assumes nothing.
 use mathlib.Core.Path.{◌∙◌, ap}
-use borrow.Author.Rules.{rules}
 use borrow.Author.Tests.{eq-eqb, ne_eqb}
 use Rattle.laws.proofs.Said.{taken, passed, choices}
 use Rattle.lines.specs.Command.{parted, of_one, by_letter}

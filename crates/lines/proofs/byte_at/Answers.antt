@@ -1,7 +1,6 @@
 -- `byte_at` answers the byte, or 0 past the end, as `get_or` has it.
 -- Assumes nothing.
 use mathlib.Core.Path.{sym}
-use borrow.Author.Rules.{rules}
 use lib.ListN.{get_or-eq_default}
 use Rattle.lines.proofs.byte_at.Goals as goal
 

@@ -1,7 +1,6 @@
 -- `last_at` keeps the number that was read where it ends the line.
 -- Assumes nothing.
 use mathlib.Core.Path.{refl, sym, ◌∙◌}
-use borrow.Author.Rules.{rules}
 use Rattle.laws.proofs.Said.{found, choices}
 use Rattle.lines.specs.Command.{last}
 use Rattle.lines.proofs.last_at.Goals as goal

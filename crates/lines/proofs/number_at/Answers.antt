@@ -1,6 +1,5 @@
 -- `number_at` hands `number_from` the bytes from the place on.
 -- Assumes nothing.
-use borrow.Author.Rules.{rules}
 use Rattle.lines.specs.Command.{number_at}
 use Rattle.lines.proofs.number_at.Goals as goal
 

@@ -1,6 +1,5 @@
 -- `number_from` makes the tests of the definition of that name in its order.
 -- Assumes nothing.
-use borrow.Author.Rules.{rules}
 use borrow.Author.Tests.{ne_eqb}
 use Rattle.laws.proofs.Said.{taken, passed, said_not, choices}
 use Rattle.lines.specs.Command.{number_from}

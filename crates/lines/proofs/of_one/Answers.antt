@@ -2,7 +2,6 @@
 -- Assumes nothing.
 use mathlib.Core.Path.{refl}
 use Prim.Native.Nat.{ℕ}
-use borrow.Author.Rules.{rules}
 use Rattle.laws.proofs.Said.{found, choices}
 use Rattle.lines.specs.Command.{of_one}
 use Rattle.lines.proofs.of_one.Goals as goal

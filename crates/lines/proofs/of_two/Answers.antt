@@ -1,6 +1,5 @@
 -- `of_two` is `of_two`, case by case.
 -- Assumes nothing.
-use borrow.Author.Rules.{rules}
 use Rattle.lines.specs.Command.{of_two}
 use Rattle.lines.proofs.of_two.Goals as goal
 

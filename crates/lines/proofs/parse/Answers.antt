@@ -1,6 +1,5 @@
 -- `parse` finds a line over 16 bytes malformed, and else goes by the letter.
 -- Assumes nothing.
-use borrow.Author.Rules.{rules}
 use borrow.Author.Tests.{le-ltb}
 use Rattle.laws.proofs.Said.{passed, choices}
 use Rattle.lines.specs.Command.{command_of}

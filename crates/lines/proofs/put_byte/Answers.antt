@@ -1,6 +1,5 @@
 -- `put_byte` is one store.
 -- Assumes nothing.
-use borrow.Author.Rules.{rules}
 use Rattle.lines.proofs.Putting.{put_one}
 use Rattle.lines.proofs.put_byte.Goals as goal
 

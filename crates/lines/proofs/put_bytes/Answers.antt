@@ -1,11 +1,8 @@
 -- `put_bytes` puts byte after byte. The invariant: those passed are put.
 -- Assumes nothing.
-use Prim.Native.Nat.{◌≤◌, ◌-◌, zero-le}
+use Prim.Native.Nat.{zero-le}
 use native.Mathlib.Omega.{arith}
-use borrow.Author.Rules.{rules}
-use lib.ListN.{length, take}
 use lib.Seq.{take_all, length-take-le}
-use Rattle.lines.specs.Inside.{Put}
 use Rattle.lines.proofs.Entries.{take_one_more}
 use Rattle.lines.proofs.Putting.{put_none, put_then, put_same}
 use Rattle.lines.proofs.put_bytes.Goals as goal

@@ -2,7 +2,6 @@
 -- Assumes nothing.
 use mathlib.Core.Path.{ap}
 use native.Mathlib.Omega.{arith}
-use borrow.Author.Rules.{rules}
 use lib.ListN.{length, length-set}
 use Rattle.lines.proofs.Texts.{one_digit, two_digits, three_digits}
 use Rattle.lines.proofs.Putting.{put_one, put_two, put_three}

@@ -1,12 +1,9 @@
 -- `put_entries` puts entry after entry. The invariant: the text of those passed is put.
 -- Assumes nothing.
 use mathlib.Core.Path.{ap}
-use Prim.Native.Nat.{◌≤◌, ◌-◌, zero-le}
+use Prim.Native.Nat.{zero-le}
 use native.Mathlib.Omega.{arith}
-use borrow.Author.Rules.{rules}
-use lib.ListN.{length, take}
 use lib.Seq.{take_all}
-use Rattle.lines.specs.Inside.{Put}
 use Rattle.lines.specs.Text.{entries_text}
 use Rattle.lines.proofs.Entries.{entries_more, entries_count, entries_within}
 use Rattle.lines.proofs.Putting.{put_none, put_then, put_same}

@@ -1,6 +1,5 @@
 -- `put_entries_line` puts the three parts of the line.
 -- Assumes nothing.
-use borrow.Author.Rules.{rules}
 use Rattle.lines.specs.Text.{log_text}
 use Rattle.lines.proofs.Putting.{line_written}
 use Rattle.lines.proofs.put_entries_line.Goals as goal

@@ -1,7 +1,6 @@
 -- `put_entry` puts the space, and the number after it.
 -- Assumes nothing.
 use mathlib.Core.Path.{refl}
-use borrow.Author.Rules.{rules}
 use Rattle.lines.proofs.Putting.{put_then}
 use Rattle.lines.proofs.put_entry.Goals as goal
 

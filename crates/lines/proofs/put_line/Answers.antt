@@ -1,7 +1,6 @@
 -- `put_line` puts the parts of a line where they have room.
 -- Assumes nothing.
 use native.Mathlib.Omega.{arith}
-use borrow.Author.Rules.{rules}
 use Rattle.lines.proofs.Putting.{line_unwritten, line_written}
 use Rattle.lines.proofs.put_line.Goals as goal
 

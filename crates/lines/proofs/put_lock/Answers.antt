@@ -1,6 +1,5 @@
 -- `put_lock` is the line of the lock word.
 -- Assumes nothing.
-use borrow.Author.Rules.{rules}
 use Rattle.lines.specs.Text.{lock_text}
 use Rattle.lines.proofs.put_lock.Goals as goal
 

@@ -1,7 +1,6 @@
 -- `put_log` writes where the entries have room, with the four bytes of `log` and the newline.
 -- Assumes nothing.
 use native.Mathlib.Omega.{arith}
-use borrow.Author.Rules.{rules}
 use Rattle.lines.specs.Text.{log_text}
 use Rattle.lines.proofs.Entries.{had_room, had_none}
 use Rattle.lines.proofs.Putting.{line_unwritten}

@@ -1,7 +1,6 @@
 -- `put_reply` is the line of a refusal or of an answer.
 -- Assumes nothing.
 use mathlib.Core.Path.{ap}
-use borrow.Author.Rules.{rules}
 use Rattle.lines.specs.Text.{reply_text}
 use Rattle.lines.proofs.Putting.{writes_same}
 use Rattle.lines.proofs.put_reply.Goals as goal

@@ -4,7 +4,7 @@ use mathlib.Core.Path.{refl, ◌∙◌, sym}
 use borrow.Author.Rules.{rules}
 use Rattle.stage.specs.Rows.{find, rows}
 use Rattle.row.proofs.AfterSwap.{by_swap}
-use Rattle.row.proofs.AtStage.{tests, past_the_table}
+use Rattle.row.proofs.AtStage.{past_the_table}
 use Rattle.row.proofs.step.Goals as goal
 
 pub returns-in-Done : goal.returns-in-Done

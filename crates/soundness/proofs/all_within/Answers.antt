@@ -1,11 +1,7 @@
 -- `all_within` asks all bytes so far, and one more.
 -- Assumes nothing.
-use Prim.Native.Nat.{◌≤◌, ◌-◌}
-use mathlib.Core.Path.{◌≡◌}
 use native.Mathlib.Omega.{arith}
 use borrow.Author.Rules.{rules}
-use lib.ListN.{length, take}
-use Rattle.stage.specs.Calls.{within}
 use Rattle.stage.specs.Sound.{each}
 use Rattle.soundness.proofs.Lists.{each_more, each_all}
 use Rattle.soundness.proofs.all_within.Goals as goal

@@ -1,12 +1,9 @@
 -- `all_within` asks all bytes so far, and one more.
 use Prim.Native.Nat.{◌≤◌, ◌-◌}
 use mathlib.Core.Path.{◌≡◌}
-use native.Mathlib.Omega.{arith}
-use borrow.Author.Rules.{rules}
 use lib.ListN.{length, take}
 use Rattle.stage.specs.Calls.{within}
 use Rattle.stage.specs.Sound.{each}
-use Rattle.soundness.proofs.Lists.{each_more, each_all}
 use Rattle.soundness.proofs.all_within.Given as goal
 
 abbrev pub invariant-loop-i : goal.invariant-loop-i

@@ -1,13 +1,11 @@
 -- `farther` makes one record's 16 lanes: all so far, and one more.
 -- Assumes nothing.
-use Prim.Native.Nat.{◌+◌, ◌-◌, ◌≤◌, max}
+use Prim.Native.Nat.{max}
 use mathlib.Core.Path.{◌≡◌, refl, sym, ◌∙◌, ap, ap₂}
-use mathlib.Core.Bool.{◌&&◌, and-true}
+use mathlib.Core.Bool.{and-true}
 use native.Mathlib.Omega.{arith}
 use borrow.Author.Rules.{rules}
-use lib.ListN.{length, get_or, length-set}
-use Rattle.stage.specs.Calls.{within}
-use Rattle.stage.specs.Sound.{each}
+use lib.ListN.{length-set}
 use Rattle.soundness.specs.Parts.{below, lanes_right}
 use Rattle.soundness.proofs.Lanes.{lanes_more}
 use Rattle.soundness.proofs.farther.Goals as goal

@@ -1,14 +1,11 @@
 -- `farther` makes one record's 16 lanes: all so far, and one more.
-use Prim.Native.Nat.{◌+◌, ◌-◌, ◌≤◌, max}
-use mathlib.Core.Path.{◌≡◌, refl, sym, ◌∙◌, ap, ap₂}
-use mathlib.Core.Bool.{◌&&◌, and-true}
-use native.Mathlib.Omega.{arith}
-use borrow.Author.Rules.{rules}
-use lib.ListN.{length, get_or, length-set}
+use Prim.Native.Nat.{◌+◌, ◌-◌, ◌≤◌}
+use mathlib.Core.Path.{◌≡◌}
+use mathlib.Core.Bool.{◌&&◌}
+use lib.ListN.{length, get_or}
 use Rattle.stage.specs.Calls.{within}
 use Rattle.stage.specs.Sound.{each}
-use Rattle.soundness.specs.Parts.{below, lanes_right}
-use Rattle.soundness.proofs.Lanes.{lanes_more}
+use Rattle.soundness.specs.Parts.{below}
 use Rattle.soundness.proofs.farther.Given as goal
 
 abbrev pub invariant-loop-k : goal.invariant-loop-k

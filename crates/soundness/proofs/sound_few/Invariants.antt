@@ -1,11 +1,7 @@
 -- `sound_few` makes the records one after the other: all so far, and one more.
 use Prim.Native.Nat.{◌-◌, ◌≤◌}
-use mathlib.Core.Path.{◌≡◌, refl}
-use native.Mathlib.Omega.{arith}
-use borrow.Author.Rules.{rules}
-use Rattle.stage.specs.Sound.{every}
+use mathlib.Core.Path.{◌≡◌}
 use Rattle.soundness.specs.Parts.{records_right}
-use Rattle.soundness.proofs.Parts.{records_next}
 use Rattle.soundness.proofs.sound_few.Given as goal
 
 abbrev pub invariant-loop-p : goal.invariant-loop-p

@@ -1,6 +1,5 @@
 -- `sound_log` asks two parts of the log: the held entries, and the rest.
 -- Assumes nothing.
-use borrow.Author.Rules.{rules}
 use Rattle.soundness.proofs.Parts.{log_is}
 use Rattle.soundness.proofs.sound_log.Goals as goal
 

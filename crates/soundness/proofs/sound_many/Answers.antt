@@ -1,11 +1,8 @@
 -- `sound_many` makes the records' lanes one after the other: all so far, and one more.
 -- Assumes nothing.
-use Prim.Native.Nat.{◌-◌, ◌≤◌}
 use mathlib.Core.Path.{◌≡◌, refl, ◌∙◌}
 use native.Mathlib.Omega.{arith}
 use borrow.Author.Rules.{rules}
-use lib.ListN.{length}
-use Rattle.stage.specs.Calls.{within}
 use Rattle.stage.specs.Sound.{every, each}
 use Rattle.soundness.specs.Parts.{records_right, least_rows}
 use Rattle.soundness.proofs.Tables.{at_most, records_more}

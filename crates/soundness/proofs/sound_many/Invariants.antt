@@ -1,13 +1,10 @@
 -- `sound_many` makes the records' lanes one after the other: all so far, and one more.
 use Prim.Native.Nat.{◌-◌, ◌≤◌}
-use mathlib.Core.Path.{◌≡◌, refl, ◌∙◌}
-use native.Mathlib.Omega.{arith}
-use borrow.Author.Rules.{rules}
+use mathlib.Core.Path.{◌≡◌}
 use lib.ListN.{length}
 use Rattle.stage.specs.Calls.{within}
-use Rattle.stage.specs.Sound.{every, each}
-use Rattle.soundness.specs.Parts.{records_right, least_rows}
-use Rattle.soundness.proofs.Tables.{at_most, records_more}
+use Rattle.stage.specs.Sound.{each}
+use Rattle.soundness.specs.Parts.{records_right}
 use Rattle.soundness.proofs.sound_many.Given as goal
 
 abbrev pub invariant-loop-p : goal.invariant-loop-p

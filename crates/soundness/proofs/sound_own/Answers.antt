@@ -1,6 +1,5 @@
 -- `sound_own` goes by whether the stage is 0, as `sound_own` does.
 -- Assumes nothing.
-use borrow.Author.Rules.{rules}
 use Rattle.laws.proofs.Said.{said}
 use Rattle.stage.specs.Sound.{sound_own}
 use Rattle.soundness.proofs.sound_own.Goals as goal

@@ -1,6 +1,5 @@
 -- `sound_private` makes the tests of the definition of that name, in their order.
 -- Assumes nothing.
-use borrow.Author.Rules.{rules}
 use Rattle.laws.proofs.Said.{said}
 use Rattle.stage.specs.Sound.{sound_private}
 use Rattle.soundness.proofs.sound_private.Goals as goal

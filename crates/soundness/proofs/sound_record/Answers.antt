@@ -1,6 +1,5 @@
 -- `sound_record` makes the rules of `record_right`, those of the parts by the functions of `stage`, which look at no count.
 -- Assumes nothing.
-use borrow.Author.Rules.{rules}
 use Rattle.stage.specs.Sound.{sound_link, sound_private, sound_shared}
 use Rattle.layout.specs.Layout.{private_at, shared_at}
 use Rattle.soundness.proofs.Parts.{record_is}

@@ -1,6 +1,5 @@
 -- `sound_shared` makes the tests of the definition of that name, in their order.
 -- Assumes nothing.
-use borrow.Author.Rules.{rules}
 use Rattle.laws.proofs.Said.{said}
 use Rattle.stage.specs.Sound.{sound_shared}
 use Rattle.soundness.proofs.sound_shared.Goals as goal

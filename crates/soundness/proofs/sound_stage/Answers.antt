@@ -1,6 +1,5 @@
 -- `sound_stage` makes the tests of the definition of that name, in their order.
 -- Assumes nothing.
-use borrow.Author.Rules.{rules}
 use Rattle.laws.proofs.Said.{said}
 use Rattle.stage.specs.Sound.{sound_stage}
 use Rattle.soundness.proofs.sound_stage.Goals as goal

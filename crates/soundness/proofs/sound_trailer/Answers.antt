@@ -1,6 +1,5 @@
 -- `sound_trailer` reads what `trailer_right` names.
 -- Assumes nothing.
-use borrow.Author.Rules.{rules}
 use Rattle.soundness.proofs.Parts.{trailer_is}
 use Rattle.soundness.proofs.sound_trailer.Goals as goal
 

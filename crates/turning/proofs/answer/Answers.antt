@@ -1,10 +1,7 @@
 -- `answer` feeds byte after byte of the block. The invariant: those passed are answered.
 -- Assumes nothing.
-use Prim.Native.Nat.{◌-◌}
 use native.Mathlib.Omega.{arith}
-use borrow.Author.Rules.{rules}
-use lib.ListN.{length}
-use Rattle.turning.proofs.Feeding.{Answered, begun, one_more, all_answered}
+use Rattle.turning.proofs.Feeding.{begun, one_more, all_answered}
 use Rattle.turning.proofs.answer.Goals as goal
 
 pub loop-i-init : goal.loop-i-init

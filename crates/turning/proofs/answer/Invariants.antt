@@ -1,9 +1,7 @@
 -- `answer` feeds byte after byte of the block. The invariant: those passed are answered.
 use Prim.Native.Nat.{◌-◌}
-use native.Mathlib.Omega.{arith}
-use borrow.Author.Rules.{rules}
 use lib.ListN.{length}
-use Rattle.turning.proofs.Feeding.{Answered, begun, one_more, all_answered}
+use Rattle.turning.proofs.Feeding.{Answered}
 use Rattle.turning.proofs.answer.Given as goal
 
 abbrev pub invariant-loop-i : goal.invariant-loop-i

@@ -1,7 +1,6 @@
 -- `answer_all` takes block after block. Nothing is said of the text; the invariant keeps the buffers as long as they are.
 use mathlib.Core.Path.{◌≡◌}
 use Prim.Native.Nat.{◌≤◌}
-use borrow.Author.Rules.{rules}
 use lib.ListN.{length}
 use Rattle.turning.proofs.answer_all.Given as goal
 

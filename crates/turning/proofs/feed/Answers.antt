@@ -1,6 +1,5 @@
 -- `feed` ends the line, keeps a byte of it or passes one over.
 -- Assumes nothing.
-use borrow.Author.Rules.{rules}
 use Rattle.turning.proofs.Feeding.{line_ended, byte_kept, byte_dropped}
 use Rattle.turning.proofs.feed.Goals as goal
 

@@ -1,6 +1,5 @@
 -- `finish` answers a line that has begun, and puts the end.
 -- Assumes nothing.
-use borrow.Author.Rules.{rules}
 use Rattle.lines.proofs.Texts.{reply_short}
 use Rattle.lines.proofs.Putting.{room_left}
 use Rattle.turning.proofs.Ending.{finish_none, finish_line}

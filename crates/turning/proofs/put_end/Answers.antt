@@ -1,7 +1,6 @@
 -- `put_end` puts the line of the lock word, and that of the log after it.
 -- Assumes nothing.
 use native.Mathlib.Omega.{arith}
-use borrow.Author.Rules.{rules}
 use Rattle.lines.proofs.Texts.{lock_short}
 use Rattle.lines.proofs.Putting.{room_left}
 use Rattle.turning.proofs.Ending.{end_put}

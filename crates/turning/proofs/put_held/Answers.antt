@@ -1,7 +1,6 @@
 -- `put_held` takes the log, which has room in 256 bytes, and puts the line of as many entries as were taken.
 -- Assumes nothing.
 use mathlib.Core.Path.{refl}
-use borrow.Author.Rules.{rules}
 use Rattle.turning.proofs.Ending.{held_within, log_put}
 use Rattle.turning.proofs.put_held.Goals as goal
 

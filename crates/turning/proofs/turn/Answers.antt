@@ -1,7 +1,6 @@
 -- `turn` makes the call that the line asks for, and none for a malformed one.
 -- Assumes nothing.
 use mathlib.Core.Path.{refl}
-use borrow.Author.Rules.{rules}
 use Rattle.turning.specs.Turn.{call_of}
 use Rattle.turning.proofs.Turning.{turned, unturned}
 use Rattle.turning.proofs.turn.Goals as goal

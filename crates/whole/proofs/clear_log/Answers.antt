@@ -5,7 +5,6 @@ use native.Mathlib.Omega.{arith}
 use lib.ListN.{length-set}
 use Rattle.image.proofs.Stored.{log_cleared}
 use Rattle.whole.proofs.Taken.{long}
-use borrow.Author.Rules.{rules}
 use Rattle.whole.proofs.clear_log.Goals as goal
 
 pub overflow_sub-log : goal.overflow_sub-log

@@ -1,7 +1,6 @@
 -- The array of `fresh_record` is the record of an idle module.
 -- Assumes nothing.
 use mathlib.Core.Path.{refl}
-use borrow.Author.Rules.{rules}
 use Rattle.link.specs.Operations.{fresh}
 use Rattle.stage.specs.Table.{idle, untouched}
 use Rattle.layout.specs.Layout.{record_of}

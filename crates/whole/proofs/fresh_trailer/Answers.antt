@@ -1,6 +1,5 @@
 -- The array of `fresh_trailer` is the trailer of a fresh table.
 -- Assumes nothing.
-use borrow.Author.Rules.{rules}
 use Rattle.whole.proofs.Fresh.{trailer_is}
 use Rattle.whole.proofs.fresh_trailer.Goals as goal
 

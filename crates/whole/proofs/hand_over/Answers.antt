@@ -2,7 +2,6 @@
 -- Assumes nothing.
 use native.Mathlib.Omega.{arith}
 use Rattle.whole.proofs.Taken.{long, few, handed}
-use borrow.Author.Rules.{rules}
 use Rattle.whole.proofs.hand_over.Goals as goal
 
 pub overflow_sub-image : goal.overflow_sub-image

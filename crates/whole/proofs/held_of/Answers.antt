@@ -3,7 +3,6 @@
 use native.Mathlib.Omega.{arith}
 use Rattle.layout.specs.Layout.{held, two}
 use Rattle.whole.proofs.Taken.{long}
-use borrow.Author.Rules.{rules}
 use Rattle.whole.proofs.held_of.Goals as goal
 
 pub overflow_sub-at : goal.overflow_sub-at

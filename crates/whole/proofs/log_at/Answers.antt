@@ -1,7 +1,6 @@
 -- `log_at` copies the log bytes over the whole of its array.
 -- Assumes nothing.
 use mathlib.Core.Path.{ap}
-use borrow.Author.Rules.{rules}
 use lib.ListN.{length}
 use Rattle.layout.specs.Layout.{log_of}
 use Rattle.whole.proofs.Copies.{copied}

@@ -1,6 +1,5 @@
 -- `put_fresh` writes records, log and trailer one behind the other.
 -- Assumes nothing.
-use borrow.Author.Rules.{rules}
 use Rattle.whole.proofs.Fresh.{fresh_put}
 use Rattle.whole.proofs.put_fresh.Goals as goal
 

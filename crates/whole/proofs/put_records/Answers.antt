@@ -1,10 +1,8 @@
 -- `put_records` copies one fresh record a turn: after k turns the first k are there.
 -- Assumes nothing.
 use mathlib.Core.Path.{◌≡◌, refl, ◌∙◌, ap}
-use Prim.Native.Nat.{ℕ, ◌-◌, ◌*◌, ◌≤◌}
+use Prim.Native.Nat.{ℕ, ◌*◌}
 use native.Mathlib.Omega.{arith}
-use borrow.Author.Rules.{rules}
-use lib.ListN.{length}
 use lib.Seq.{paste, paste-zero}
 use Rattle.stage.specs.Table.{fresh_table}
 use Rattle.layout.specs.Layout.{records_of}

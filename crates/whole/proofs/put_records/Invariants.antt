@@ -1,13 +1,10 @@
 -- `put_records` copies one fresh record a turn: after k turns the first k are there.
-use mathlib.Core.Path.{◌≡◌, refl, ◌∙◌, ap}
-use Prim.Native.Nat.{ℕ, ◌-◌, ◌*◌, ◌≤◌}
-use native.Mathlib.Omega.{arith}
-use borrow.Author.Rules.{rules}
+use mathlib.Core.Path.{◌≡◌}
+use Prim.Native.Nat.{◌-◌, ◌*◌, ◌≤◌}
 use lib.ListN.{length}
-use lib.Seq.{paste, paste-zero}
+use lib.Seq.{paste}
 use Rattle.stage.specs.Table.{fresh_table}
 use Rattle.layout.specs.Layout.{records_of}
-use Rattle.whole.proofs.Fresh.{record_more}
 use Rattle.whole.proofs.put_records.Given as goal
 
 abbrev pub invariant-loop-k : goal.invariant-loop-k

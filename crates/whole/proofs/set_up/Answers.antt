@@ -1,6 +1,5 @@
 -- `set_up` refuses a number, then a short buffer; past both it writes a fresh image.
 -- Assumes nothing.
-use borrow.Author.Rules.{rules}
 use Rattle.whole.proofs.Fresh.{no_number, no_room, sets_up}
 use Rattle.image.proofs.Refusals.{too_low, too_high}
 use Rattle.whole.proofs.set_up.Goals as goal

@@ -2,7 +2,6 @@
 -- Assumes nothing.
 use Rattle.laws.proofs.Said.{said_no, said_yes}
 use Rattle.whole.proofs.Taken.{untaken, short, takes}
-use borrow.Author.Rules.{rules}
 use Rattle.whole.proofs.take_log.Goals as goal
 
 pub returns-then-not-sound-clause-does : goal.returns-then-not-sound-clause-does

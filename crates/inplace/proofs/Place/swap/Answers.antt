@@ -1,6 +1,5 @@
 -- `Place::swap` goes by what `same_in_place` says of the two links, where both lie within the bytes.
 -- Assumes nothing.
-use Rattle.std.proofs.Common.{rules}
 use Rattle.laws.proofs.Said.{said_no, said_yes}
 use Rattle.inplace.proofs.Swapping.{within, not_here, not_there, failed, done}
 use Rattle.inplace.proofs.Place.swap.Goals as goal
