@@ -61,6 +61,7 @@ fn value(a: u8, b: u8, c: u8) -> u32
 }
 
 // The number that begins with the byte a, at a place of a line.
+#[tactic(auto, using(laws::proofs::Said::choices), unfolding(crate::specs::Command::number_from))]
 fn number_from(a: u8, b: u8, c: u8, d: u8, at: usize) -> Number
     requires { at ≤ 32 }
     ensures { result ≡ number_from a b c d at }

@@ -1,7 +1,7 @@
 // The program `turns`: lines of input, each answered by the one call that it asks for. 01, "The program `turns`".
 //
 // What it writes for its input is `Program.output`. `answer` takes a block of the input and `finish` its end;
-// around them `run` only reads and writes, of which no contract can speak.
+// around them `run` only reads and writes, of which its contract says nothing.
 #![tactic(auto)]
 
 ghost use Rattle.std.specs.Prelude.{◌≡◌, ◌+◌, ◌*◌, ◌≤◌, length};
