@@ -16,9 +16,9 @@ of_none : (b : List ℕ) → sound b ≡ false → 0 ≡ lock_word b
 unfolding lock_word
 of_none b e = passed _ _ _ _ e refl
 
-of-trailer : (b : List ℕ) (f : Frame) → Framed b f → byte b f.trailer ≡ lock_word b
+of_trailer : (b : List ℕ) (f : Frame) → Framed b f → byte b f.trailer ≡ lock_word b
 unfolding lock_word read
-of-trailer b f framed = taken _ _ _ _ framed.is (ap (byte b) framed.trailer_is)
+of_trailer b f framed = taken _ _ _ _ framed.is (ap (byte b) framed.trailer_is)
 
 pub returns-then-not-sound : goal.returns-then-not-sound
 returns-then-not-sound c = of_none _ (search said)
@@ -27,4 +27,4 @@ pub frame_of-trailer-requires : goal.frame_of-trailer-requires
 frame_of-trailer-requires c = search said
 
 pub returns : goal.returns
-returns c = of-trailer _ _ c.frame_of-trailer.ensures
+returns c = of_trailer _ _ c.frame_of-trailer.ensures
