@@ -1,6 +1,6 @@
 -- The bench table. Document 01, "Bench table": B1 to B10, each told as a run of calls on an image, with what is to be seen on the way, in its order
 -- and with its figures, B1 and B7 as document 02, R-1, has them. The calls are those of the public contracts: `reply` and `image`, on bytes.
-use Rattle.std.specs.Prelude.{ℕ, zero, suc, ◌+◌, ◌≡◌, Bool, true, false, cond, ◌&&◌, List, [], ◌∷◌, ◌++◌, eqb, take, replicate}
+use Rattle.std.specs.Prelude.{ℕ, zero, suc, ◌+◌, ◌≡◌, Bool, true, false, cond, ◌&&◌, List, [], ◌∷◌, ◌++◌, eqb, take, replicate, Ok, Err}
 use Rattle.link.specs.Count.{next, size}
 use Rattle.link.specs.Operations.{OPEN, CLOSED, opened}
 use Rattle.link.specs.declared.Link.{Link}
@@ -9,11 +9,10 @@ use Rattle.stage.specs.Rows.{with_link}
 use Rattle.stage.specs.Table.{Table, upd}
 use Rattle.stage.specs.declared.Event.{Event}
 use Rattle.stage.specs.declared.Event.TheVariants.{Done, Waiting, Admitted, Joined, Left, Finished, Taken, Nobody}
-use Rattle.stage.specs.declared.Reply.{Reply}
-use Rattle.stage.specs.declared.Reply.TheVariants.{Refused, Answered}
 use Rattle.layout.specs.Layout.{length_for, read, put}
 use Rattle.image.specs.Call.{reply, image}
 use Rattle.line.specs.Mixed.{unraised}
+use Rattle.stage.specs.Answers.{Reply}
 
 abbrev pub nil : ℕ
 nil = 0
@@ -66,12 +65,12 @@ admitted (Taken k) = []
 admitted Nobody = []
 
 abbrev pub answer_in : Reply → List ℕ
-answer_in (Refused k) = []
-answer_in (Answered a) = a.number ∷ admitted a.event
+answer_in (Err k) = []
+answer_in (Ok a) = a.number ∷ admitted a.event
 
 abbrev pub refusal_in : Reply → List ℕ
-refusal_in (Refused k) = k ∷ []
-refusal_in (Answered a) = []
+refusal_in (Err k) = k ∷ []
+refusal_in (Ok a) = []
 
 -- the figures seen, of the reply r and the image b
 unfoldable pub figures : Sight → Reply → List ℕ → List ℕ

@@ -14,8 +14,6 @@ use Rattle.stage.proofs.Update.{upd_all}
 use Rattle.stage.specs.Calls.{Call, called}
 use Rattle.stage.specs.Rows.{goes}
 use Rattle.stage.specs.Table.{Table, idle}
-use Rattle.stage.specs.declared.Reply.{Reply}
-use Rattle.stage.specs.declared.Reply.TheVariants.{Refused}
 use Rattle.layout.proofs.ReadBack.{Held}
 use Rattle.layout.specs.Layout.{length_for, put}
 use Rattle.image.proofs.Sound as Sound
@@ -24,6 +22,9 @@ use Rattle.line.proofs.Desks.{called_table, left_or}
 use Rattle.line.specs.Mixed.{unraised, left_before, sound_before, called_by}
 use Rattle.claims.proofs.Images.{Shows, known, outside, fits_read, put_shows, says_is, leaves_is}
 use Rattle.claims.specs.Claims.{images}
+use Rattle.stage.specs.Answers.{Reply}
+use Rattle.stage.specs.declared.Refusal.TheVariants.{Unsound}
+use Rattle.std.specs.Prelude.{Ok, Err}
 
 -- a module at stage 19 is one of the table
 module _ (t : Table) (sound_t : Soundly t) (held : Held t) (p : ℕ) (at_19 : (t.private p).stage ≡ 19) where
@@ -96,7 +97,7 @@ module _ (long : ℕ) (s : List ℕ) (t : Table) (shows : Shows long s t) (c : C
   old = ((reply c s, put (left_before c t r'.1) s'), (r'.0, left_before c t r'.1))
 
   abbrev unsound : Both
-  unsound = ((Refused 1, s), (Refused 1, t))
+  unsound = ((Err Unsound, s), (Err Unsound, t))
 
   abbrev today : Both
   today = ((reply c s, s'), r')
@@ -104,14 +105,14 @@ module _ (long : ℕ) (s : List ℕ) (t : Table) (shows : Shows long s t) (c : C
   both_alike : Alike (cond before (cond (sound_before c t) old unsound) today)
   both_alike =
       choose Alike before
-      (λ _. choose Alike (sound_before c t) (λ _. (says_is long s t shows c, rewritten long s' r'.1 now c t)) (λ _. (λ i. Refused 1, shows)))
+      (λ _. choose Alike (sound_before c t) (λ _. (says_is long s t shows c, rewritten long s' r'.1 now c t)) (λ _. (λ i. Err Unsound, shows)))
       (λ _. (says_is long s t shows c, now))
 
   of_image : (cond before (cond (sound_before c t) old unsound) today).0 ≡ called_by before images put c s
   unfolding called_by
   of_image =
       cond_map₂ (λ (r : Both). r.0) before (sound_before c t) old unsound today
-      ∙ sym (λ i. cond before (cond (sound_before c (shows.table i)) (reply c s, put (left_before c (shows.table i) (now.table i)) s') (Refused 1, s)) (reply c s, s'))
+      ∙ sym (λ i. cond before (cond (sound_before c (shows.table i)) (reply c s, put (left_before c (shows.table i) (now.table i)) s') (Err Unsound, s)) (reply c s, s'))
 
   of_table : (cond before (cond (sound_before c t) old unsound) today).1 ≡ called_table before (next size) fits c t
   unfolding called_by

@@ -10,13 +10,13 @@ use native.Mathlib.Omega.{arith}
 use Rattle.stage.proofs.Around.{ahead, ahead_most, ahead_other}
 use Rattle.stage.specs.Calls.{Call, step, rests}
 use Rattle.stage.specs.declared.Answer.{Answer}
-use Rattle.stage.specs.declared.Reply.{Reply}
-use Rattle.stage.specs.declared.Reply.TheVariants.{Answered}
 use Rattle.layout.specs.Layout.{read}
 use Rattle.image.specs.Call.{reply}
 use Rattle.line.specs.Corollaries.{step_in, steps_now}
 use Rattle.claims.proofs.Turns.{Serves, serves_closer}
 use Rattle.claims.specs.Turns.{Past}
+use Rattle.stage.specs.Answers.{Reply}
+use Rattle.std.specs.Prelude.{Ok, Err}
 
 -- one call, c, which said r on the image b: by itself, or as an accepted turn
 pub record Turned (b : List ℕ) (c : Call) (r : Reply) (x x' : Past) (z : ℕ) : Type 0 where
@@ -30,7 +30,7 @@ abbrev pub How : List ℕ → Call → Reply → Past → Past → Type 0
 How b c r x x' = ((x'.marker ≡ x.marker) × (length x'.served ≡ length x.served)) ⊎ ((z : ℕ) × Turned b c r x x' z)
 
 -- an accepted turn of q
-pub turned : {b : List ℕ} (x : Past) (q : ℕ) → Serves b x.marker q → (a : Answer) → reply (step q) b ≡ Answered a
+pub turned : {b : List ℕ} (x : Past) (q : ℕ) → Serves b x.marker q → (a : Answer) → reply (step q) b ≡ Ok a
     → Turned b (step q) (reply (step q) b) x (record { calls = step q ∷ x.calls; marker = q; served = q ∷ x.served }) q
 unfolding step_in steps_now
 turned x q serves a says =

@@ -14,13 +14,11 @@ use Rattle.laws.proofs.Only.{among, included}
 use Rattle.link.specs.Count.{next, size}
 use Rattle.stage.proofs.Around.{ahead_most}
 use Rattle.stage.proofs.Update.{upd_same}
-use Rattle.stage.specs.Answers.{answer_of}
+use Rattle.stage.specs.Answers.{answer_of, Reply}
 use Rattle.stage.specs.Calls.{Call, set_up, begin_release, step, rests, refusals, refusing, answered, after, called}
 use Rattle.stage.specs.Table.{Table, begun_release}
 use Rattle.stage.specs.declared.Event.TheVariants.{Done}
 use Rattle.stage.specs.declared.Private.{Private}
-use Rattle.stage.specs.declared.Reply.{Reply}
-use Rattle.stage.specs.declared.Reply.TheVariants.{Answered}
 use Rattle.layout.specs.Layout.{length_for, read}
 use Rattle.soundness.specs.SoundImage.{sound}
 use Rattle.image.specs.Call.{refused, reply, image}
@@ -38,6 +36,7 @@ use Rattle.claims.proofs.Promises.{start_shows}
 use Rattle.claims.proofs.Turns.{able_known, calls_stay, after_turn}
 use Rattle.claims.specs.Claims.{images}
 use Rattle.claims.specs.Turns.{Move, call, turn, Past, past, Admits, GoOn, HandedOn}
+use Rattle.std.specs.Prelude.{Ok, Err}
 
 -- who is about to leave, leaving or waiting can step
 busy_able : (k : ℕ) → T (among k busy) → (eqb k 0 || eqb k 13) ≡ false
@@ -293,7 +292,7 @@ module _ (b : List ℕ) (is : sound b ≡ true) (hands : HandsOn images b size) 
     is_p : (1 ≤ p) × (p ≤ (read b₀).n)
     is_p = known (read b₀) (read_idle b₀) p (λ e. omega (arith, at_13, e))
 
-    answers : reply (begin_release p) b₀ ≡ Answered (answer_of Done)
+    answers : reply (begin_release p) b₀ ≡ Ok (answer_of Done)
     unfolding reply refused refusals refusing answered
     answers = simp (sound_0, le-leb 1 p is_p.0, le-leb p (read b₀).n is_p.1, at_13)
 

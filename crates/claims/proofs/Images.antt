@@ -18,14 +18,15 @@ use Rattle.stage.specs.Calls.{Call, set_up, begin_acquisition, begin_release, st
 use Rattle.stage.specs.Rows.{looks_at}
 use Rattle.stage.specs.Table.{Table, upd, idle, untouched, fresh_table, begun_acquisition, begun_release, after_step, log_taken}
 use Rattle.stage.specs.declared.Private.{Private}
-use Rattle.stage.specs.declared.Reply.{Reply}
-use Rattle.stage.specs.declared.Reply.TheVariants.{Refused, Answered}
 use Rattle.layout.proofs.ReadBack.{Held, length_put, read_put}
 use Rattle.layout.specs.Layout.{length_for, record_at, private_at, shared_at, read, put}
 use Rattle.soundness.specs.SoundImage.{sound}
 use Rattle.image.proofs.Sound as Sound
 use Rattle.image.proofs.Sound.{put_sound}
 use Rattle.image.specs.Call.{refused, reply, image}
+use Rattle.stage.specs.Answers.{Reply}
+use Rattle.stage.specs.declared.Refusal.{Refusal}
+use Rattle.std.specs.Prelude.{Ok, Err}
 
 -- what stands outside 1 to n stays where a module's part is changed
 pub outside : {A : Type 0} (f : ℕ → A) (n p : ℕ) (v other : A) → 1 ≤ p → p ≤ n
@@ -131,7 +132,7 @@ module _ (long : ℕ) (s : List ℕ) (t : Table) (shows : Shows long s t) (c : C
   abbrev room : ℕ → Bool
   room k = leb (length_for k) long
 
-  abbrev tests : List (Bool × ℕ)
+  abbrev tests : List (Bool × Refusal)
   tests = refusals (next size) room c t
 
   sound_t : Soundly t
@@ -147,8 +148,8 @@ module _ (long : ℕ) (s : List ℕ) (t : Table) (shows : Shows long s t) (c : C
   pub says_is : reply c s ≡ (called (next size) room c t).0
   unfolding reply called refusing
   says_is =
-      (λ i. refusing (refused_is i) Refused (Answered (answered (next size) c (shows.table i))))
-      ∙ sym (refusing_map (λ (r : Reply × Table). r.0) tests (λ k. (Refused k, t)) (Answered (answered (next size) c t), after (next size) c t))
+      (λ i. refusing (refused_is i) Err (Ok (answered (next size) c (shows.table i))))
+      ∙ sym (refusing_map (λ (r : Reply × Table). r.0) tests (λ k. (Err k, t)) (Ok (answered (next size) c t), after (next size) c t))
 
   -- what is left, in bytes and as a table
   abbrev left : List ℕ × Table
@@ -175,7 +176,7 @@ module _ (long : ℕ) (s : List ℕ) (t : Table) (shows : Shows long s t) (c : C
   unfolding called
   table_is =
       refusing_map (λ (r : List ℕ × Table). r.1) tests (λ k. (s, t)) (put (after (next size) c t) s, after (next size) c t)
-      ∙ sym (refusing_map (λ (r : Reply × Table). r.1) tests (λ k. (Refused k, t)) (Answered (answered (next size) c t), after (next size) c t))
+      ∙ sym (refusing_map (λ (r : Reply × Table). r.1) tests (λ k. (Err k, t)) (Ok (answered (next size) c t), after (next size) c t))
 
   pub leaves_is : Shows long (image c s) (called (next size) room c t).1
   leaves_is = subst₂ (Shows long) image_is table_is left_shows

@@ -4,7 +4,6 @@ use mathlib.Core.Path.{◌≡◌, refl, sym, ◌∙◌, ap, subst, subst⁻¹}
 use mathlib.Core.Bool.{true, false, cond, not, ◌||◌, and-false, true≢false}
 use mathlib.Core.List.{List, [], ◌∷◌}
 use mathlib.Core.Logic.{◌⊎◌, inl, inr, ⊎_elim}
-use mathlib.Core.Option.{some}
 use lib.Dec.{eqb}
 use lib.ListN.{length}
 use borrow.Author.Tests.{le-leb, lt-leb, not-true, not-false}
@@ -14,7 +13,7 @@ use Rattle.link.specs.Count.{next, size}
 use Rattle.stage.proofs.Around.{ahead, ahead_most, first_around, first_closer}
 use Rattle.stage.proofs.Refusing.{refused_or, is_within}
 use Rattle.stage.proofs.Events.{Of, agrees}
-use Rattle.stage.specs.Answers.{number_of, answer_of}
+use Rattle.stage.specs.Answers.{number_of, answer_of, Reply}
 use Rattle.stage.specs.Calls.{Call, set_up, begin_acquisition, begin_release, step, take_log, within, capacity, rests, refusals, refusing, answered, after, called}
 use Rattle.stage.specs.Rows.{looks_at}
 use Rattle.stage.specs.Table.{Table, idle, fresh_table, begun_acquisition, begun_release, step_of, after_step, log_taken}
@@ -22,8 +21,6 @@ use Rattle.stage.specs.Turns.{next_after}
 use Rattle.stage.specs.declared.Answer.{Answer}
 use Rattle.stage.specs.declared.Event.{Event}
 use Rattle.stage.specs.declared.Event.TheVariants.{Done, Waiting, Admitted, Joined, Left, Finished, Taken, Nobody}
-use Rattle.stage.specs.declared.Reply.{Reply}
-use Rattle.stage.specs.declared.Reply.TheVariants.{Refused, Answered}
 use Rattle.layout.specs.Layout.{read}
 use Rattle.soundness.specs.SoundImage.{sound}
 use Rattle.image.proofs.Sound as Sound
@@ -36,18 +33,19 @@ use Rattle.claims.proofs.Images.{leaves_is, shown, known, read_idle}
 use Rattle.claims.proofs.Promises.{stays_sound}
 use Rattle.claims.specs.Claims.{images}
 use Rattle.claims.specs.Turns.{Move, call, turn, Past, stepping, turning, past, image_after, Able, seen, Faithful, Fair, NotRefused}
+use Rattle.std.specs.Prelude.{Some, Ok, Err}
 
 -- histories of the contracts -----------------------------------------------------------------------------------------------------
 
 -- what holds after a module's step, refused or accepted
 stepping_or :
     (P : Reply → Past → Type 0) (q : ℕ) (x : Past)
-    → ((k : ℕ) → P (Refused k) (record { calls = step q ∷ x.calls; marker = x.marker; served = x.served }))
-    → ((a : Answer) → P (Answered a) (record { calls = step q ∷ x.calls; marker = q; served = q ∷ x.served }))
+    → ((k : ℕ) → P (Err k) (record { calls = step q ∷ x.calls; marker = x.marker; served = x.served }))
+    → ((a : Answer) → P (Ok a) (record { calls = step q ∷ x.calls; marker = q; served = q ∷ x.served }))
     → (r : Reply) → P r (stepping q r x)
 unfolding stepping
-stepping_or P q x no_q yes_q (Refused k) = no_q k
-stepping_or P q x no_q yes_q (Answered a) = yes_q a
+stepping_or P q x no_q yes_q (Err k) = no_q k
+stepping_or P q x no_q yes_q (Ok a) = yes_q a
 
 -- no step says that nobody can step
 step_not_nine : (p : ℕ) (e : Event) → Of p e → eqb (number_of e) 9 ≡ false
@@ -60,10 +58,10 @@ step_not_nine p Finished o = refl
 step_not_nine p (Taken k) o = absurd o
 step_not_nine p Nobody o = absurd o
 
-not_nine : (p : ℕ) (b : List ℕ) (a : Answer) → reply (step p) b ≡ Answered a → eqb a.number 9 ≡ false
+not_nine : (p : ℕ) (b : List ℕ) (a : Answer) → reply (step p) b ≡ Ok a → eqb a.number 9 ≡ false
 unfolding reply refused refusals answered step_of
 not_nine p b a =
-    refused_or (λ (r : Reply). r ≡ Answered a → eqb a.number 9 ≡ false) (refused (step p) b) Refused _
+    refused_or (λ (r : Reply). r ≡ Ok a → eqb a.number 9 ≡ false) (refused (step p) b) Err _
     (λ k e. absurd (let z : ◌≡◌ {A = ℕ} 0 1 = cc in omega arith))
     (λ u e.
     let t = read b in
@@ -110,7 +108,7 @@ faithful b m earlier =
 pub record Serves (b : List ℕ) (m q : ℕ) : Type 0 where
   pub marker_low : 1 ≤ m
   pub marker_high : m ≤ (read b).n
-  pub is_next : next_after (read b) m ≡ some q
+  pub is_next : next_after (read b) m ≡ Some q
   pub low : 1 ≤ q
   pub high : q ≤ (read b).n
   pub able : rests (read b) q ≡ false
@@ -153,20 +151,20 @@ unfolding next_after
 serves_closer b m q s p low high can =
     let n = (read b).n in
     let c = first_closer (λ i. not (rests (read b) i)) n m s.marker_high p low high (ap not can) in
-    let same : some c.0 ≡ some q = sym c.1 ∙ s.is_next in
+    let same : Some c.0 ≡ Some q = sym c.1 ∙ s.is_next in
     let e : c.0 ≡ q = cc in
     ⊎_elim (λ w. inl (sym w ∙ e)) (λ w. inr (subst (λ (i : ℕ). ahead n i p < ahead n m p) e w)) c.2
 
 -- With room in the log the step of whoever is served is not refused.
 step_answers :
     (b : List ℕ) (m q : ℕ) → sound b ≡ true → Serves b m q → length (read b).log < capacity
-    → reply (step q) b ≡ Answered (answered (next size) (step q) (read b))
+    → reply (step q) b ≡ Ok (answered (next size) (step q) (read b))
 unfolding reply refused refusals refusing
 step_answers b m q is s room = simp (is, le-leb 1 q s.low, le-leb q (read b).n s.high, s.able, lt-leb capacity (length (read b).log) room, and-false)
 
 pub not_refused : NotRefused
 not_refused b m is low high room r b' m' =
-    turn_is b m is (λ t. Gives t b m r b' m' → (a : Answer) × (r ≡ Answered a))
+    turn_is b m is (λ t. Gives t b m r b' m' → (a : Answer) × (r ≡ Ok a))
     (λ outside g. absurd (true≢false (sym (both_are (le-leb 1 m low) (le-leb m (read b).n high)) ∙ outside)))
     (λ _ _ _ g. (answer_of Nobody, g.0))
     (λ q s g. (answered (next size) (step q) (read b), g.0.says ∙ step_answers b m q is s room))
@@ -191,7 +189,7 @@ pub image_keeps_n : (c : Call) (b : List ℕ) → sound b ≡ true → ((read (i
 unfolding called
 image_keeps_n c b is =
     subst⁻¹ (λ (t : Table). (t.n ≡ (read b).n) ⊎ Starts c t) (leaves_is (length b) b (read b) (shown b is) c).table
-    (refused_or (λ (r : Reply × Table). (r.1.n ≡ (read b).n) ⊎ Starts c r.1) _ (λ k. (Refused k, read b)) _ (λ k. inl refl)
+    (refused_or (λ (r : Reply × Table). (r.1.n ≡ (read b).n) ⊎ Starts c r.1) _ (λ k. (Err k, read b)) _ (λ k. inl refl)
     (λ _. keeps_n (next size) c (read b)))
 
 -- p can step after the last move, and before it
@@ -230,8 +228,8 @@ module _ (b : List ℕ) (m : ℕ) (is : sound b ≡ true) where
       let now = image_after b m earlier in
       (within 1 (read now).n x.marker ≡ false → P x)
       → (((i : ℕ) → 1 ≤ i → i ≤ (read now).n → rests (read now) i ≡ true) → P (record { calls = x.calls; marker = x.marker; served = 0 ∷ x.served }))
-      → ((q k : ℕ) → Serves now x.marker q → reply (step q) now ≡ Refused k → P (record { calls = step q ∷ x.calls; marker = x.marker; served = x.served }))
-      → ((q : ℕ) (a : Answer) → Serves now x.marker q → reply (step q) now ≡ Answered a
+      → ((q k : ℕ) → Serves now x.marker q → reply (step q) now ≡ Err k → P (record { calls = step q ∷ x.calls; marker = x.marker; served = x.served }))
+      → ((q : ℕ) (a : Answer) → Serves now x.marker q → reply (step q) now ≡ Ok a
       → P (record { calls = step q ∷ x.calls; marker = q; served = q ∷ x.served }))
       → P (past b m (turn ∷ earlier))
   unfolding past turning

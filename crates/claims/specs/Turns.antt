@@ -1,12 +1,10 @@
 -- Document 02, R-2, of histories on images: calls, and turns with one marker.
-use Rattle.std.specs.Prelude.{ℕ, zero, suc, ◌+◌, ◌*◌, ◌≤◌, ◌<◌, ◌≡◌, true, false, cond, List, [], ◌∷◌, ◌++◌, ◌⊎◌, eqb, length}
+use Rattle.std.specs.Prelude.{ℕ, zero, suc, ◌+◌, ◌*◌, ◌≤◌, ◌<◌, ◌≡◌, true, false, cond, List, [], ◌∷◌, ◌++◌, ◌⊎◌, eqb, length, Ok, Err}
 use Rattle.link.specs.Count.{size}
-use Rattle.stage.specs.Answers.{answer_of}
+use Rattle.stage.specs.Answers.{answer_of, Reply}
 use Rattle.stage.specs.Calls.{Call, set_up, begin_acquisition, begin_release, step, rests, capacity}
 use Rattle.stage.specs.declared.Answer.{Answer}
 use Rattle.stage.specs.declared.Event.TheVariants.{Admitted}
-use Rattle.stage.specs.declared.Reply.{Reply}
-use Rattle.stage.specs.declared.Reply.TheVariants.{Refused, Answered}
 use Rattle.layout.specs.Layout.{read}
 use Rattle.soundness.specs.SoundImage.{sound}
 use Rattle.image.specs.Call.{Does, reply, image}
@@ -28,8 +26,8 @@ pub record Past : Type 0 where
   pub served : List ℕ
 
 unfoldable pub stepping : ℕ → Reply → Past → Past
-stepping p (Refused k) x = record { calls = step p ∷ x.calls; marker = x.marker; served = x.served }
-stepping p (Answered a) x = record { calls = step p ∷ x.calls; marker = p; served = p ∷ x.served }
+stepping p (Err k) x = record { calls = step p ∷ x.calls; marker = x.marker; served = x.served }
+stepping p (Ok a) x = record { calls = step p ∷ x.calls; marker = p; served = p ∷ x.served }
 
 -- a turn, one that is made on the image b
 unfoldable pub turning : Turn → List ℕ → Past → Past
@@ -58,8 +56,8 @@ module _ (b : List ℕ) (m : ℕ) where
 
 -- whom the accepted turns stepped, as a caller sees it: a turn said r and left the marker m; 9 is that nobody can step
 unfoldable pub seen : Reply → ℕ → List ℕ → List ℕ
-seen (Refused k) m served = served
-seen (Answered a) m served = cond (eqb a.number 9) 0 m ∷ served
+seen (Err k) m served = served
+seen (Ok a) m served = cond (eqb a.number 9) 0 m ∷ served
 
 -- That these histories are those of the contracts: what the contract of a call, and that of a turn, says of the image and the marker after it, and
 -- what the caller makes of it.
@@ -85,12 +83,12 @@ Fair =
 abbrev pub NotRefused : Type 0
 NotRefused =
     (b : List ℕ) (m : ℕ) → sound b ≡ true → 1 ≤ m → m ≤ (read b).n → length (read b).log < capacity
-    → (r : Reply) (b' : List ℕ) (m' : ℕ) → GivesTurn b m r b' m' → (a : Answer) × (r ≡ Answered a)
+    → (r : Reply) (b' : List ℕ) (m' : ℕ) → GivesTurn b m r b' m' → (a : Answer) × (r ≡ Ok a)
 
 -- somebody was admitted
 unfoldable pub Admits : Transcript → Type 0
 Admits [] = ⊥
-Admits (x ∷ earlier) = ((q : ℕ) × (x.1 ≡ Answered (answer_of (Admitted q)))) ⊎ Admits earlier
+Admits (x ∷ earlier) = ((q : ℕ) × (x.1 ≡ Ok (answer_of (Admitted q)))) ⊎ Admits earlier
 
 -- no set-up among them
 unfoldable pub GoOn : List Move → Type 0

@@ -3,22 +3,21 @@
 use mathlib.Core.Path.{◌≡◌, sym, ap, ◌∙◌}
 use mathlib.Core.List.{List}
 use Prim.Native.Nat.{ℕ, ◌+◌, ◌*◌}
-use Rattle.stage.specs.Answers.{module_admitted, length_taken}
+use Rattle.stage.specs.Answers.{module_admitted, length_taken, Reply}
 use Rattle.stage.specs.Calls.{Call}
 use Rattle.stage.specs.declared.Answer.{Answer}
-use Rattle.stage.specs.declared.Reply.{Reply}
-use Rattle.stage.specs.declared.Reply.TheVariants.{Refused, Answered}
 use Rattle.image.specs.Call.{Does}
 use Rattle.desk.specs.Packed.{top, packed, Exports}
+use Rattle.std.specs.Prelude.{Ok, Err}
 
 pub said : (c : Call) (b : List ℕ) (r : Reply) (b' : List ℕ) (x : ℕ) → Does c b r b' → x ≡ packed r → Exports c b x b'
 said c b r b' x does same = record { says = same ∙ ap packed does.says; leaves = does.leaves }
 
-pub refusal : (r : Reply) (k : ℕ) → r ≡ Refused k → top + k ≡ packed r
+pub refusal : (r : Reply) (k : ℕ) → r ≡ Err k → top + k ≡ packed r
 unfolding packed
 refusal r k is = sym (ap packed is)
 
-pub answer : (r : Reply) (a : Answer) (p k : ℕ) → r ≡ Answered a → p ≡ module_admitted a.event → k ≡ length_taken a.event
+pub answer : (r : Reply) (a : Answer) (p k : ℕ) → r ≡ Ok a → p ≡ module_admitted a.event → k ≡ length_taken a.event
     → a.number + 256 * p + 65536 * k ≡ packed r
 unfolding packed
 answer r a p k is module_is length =

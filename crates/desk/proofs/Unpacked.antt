@@ -10,15 +10,13 @@ use borrow.Author.Tests.{le-leb, lt-leb, not-false}
 use lib.Dec.{leb}
 use lib.ListN.{length}
 use Rattle.link.specs.Count.{next, size}
-use Rattle.stage.specs.Answers.{answer_of}
+use Rattle.stage.specs.Answers.{answer_of, Reply}
 use Rattle.stage.specs.Calls.{Call, set_up, begin_acquisition, begin_release, step, take_log, refusals, answered}
 use Rattle.stage.specs.Rows.{looks_at}
 use Rattle.stage.specs.Table.{step_of}
 use Rattle.stage.specs.declared.Answer.{Answer}
 use Rattle.stage.specs.declared.Event.{Event}
 use Rattle.stage.specs.declared.Event.TheVariants.{Done, Waiting, Admitted, Joined, Left, Finished, Taken, Nobody}
-use Rattle.stage.specs.declared.Reply.{Reply}
-use Rattle.stage.specs.declared.Reply.TheVariants.{Refused, Answered}
 use Rattle.stage.proofs.Events.{Of, agrees}
 use Rattle.stage.proofs.Refusing.{Unrefused, refused_or, is_within}
 use Rattle.layout.specs.Layout.{read}
@@ -27,17 +25,18 @@ use Rattle.image.specs.Turn as T
 use Rattle.image.specs.Turn.{Turn, nobody, step_by, turn_of, Gives}
 use Rattle.image.proofs.Sound.{table}
 use Rattle.desk.specs.Packed.{top, packed, takes, event_of, unpacked, LosesNothing, TurnsToo}
+use Rattle.std.specs.Prelude.{Ok, Err}
 
 -- what is said comes back
 abbrev Back : Bool → Reply → Type 0
 Back log r = unpacked log (packed r) ≡ r
 
-refusal : (log : Bool) (k : ℕ) → Back log (Refused k)
+refusal : (log : Bool) (k : ℕ) → Back log (Err k)
 unfolding packed unpacked
 refusal log k = simp (le-leb top (top + k) (omega arith), add-sub_cancel_left top k)
 
 -- what is read of an admission's number, and of a taken log's
-admission : (p : ℕ) → p ≤ 64 → Back false (Answered (answer_of (Admitted p)))
+admission : (p : ℕ) → p ≤ 64 → Back false (Ok (answer_of (Admitted p)))
 unfolding packed unpacked event_of
 admission p few =
     let x : ℕ = 2 + 256 * p + 65536 * 0 in
@@ -47,7 +46,7 @@ admission p few =
     let module_is : p % 256 ≡ p = mod-eq_of_lt (omega arith) in
     simp (low, number, over, module_is)
 
-taken : (k : ℕ) → k ≤ 256 → Back true (Answered (answer_of (Taken k)))
+taken : (k : ℕ) → k ≤ 256 → Back true (Ok (answer_of (Taken k)))
 unfolding packed unpacked event_of
 taken k few =
     let x : ℕ = 0 + 256 * 0 + 65536 * k in
@@ -57,7 +56,7 @@ taken k few =
     simp (low, number, length_is_k)
 
 -- every event of a step
-stepped : (p : ℕ) (e : Event) → p ≤ 64 → Of p e → Back false (Answered (answer_of e))
+stepped : (p : ℕ) (e : Event) → p ≤ 64 → Of p e → Back false (Ok (answer_of e))
 unfolding packed unpacked event_of
 stepped p Done few o = refl
 stepped p Waiting few o = refl
@@ -68,7 +67,7 @@ stepped p Finished few o = refl
 stepped p (Taken k) few o = absurd o
 stepped p Nobody few o = absurd o
 
-accepted : (c : Call) (b : List ℕ) → Unrefused (refused c b) → Back (takes c) (Answered (answered (next size) c (read b)))
+accepted : (c : Call) (b : List ℕ) → Unrefused (refused c b) → Back (takes c) (Ok (answered (next size) c (read b)))
 unfolding refused refusals answered step_of
 accepted (set_up k) b u = stepped 0 Done (omega arith) tt
 accepted (begin_acquisition p r) b u = stepped 0 Done (omega arith) tt
@@ -79,13 +78,13 @@ accepted (step p) b u =
     let k = is_within 1 t.n p u.1.0 in
     let few = s.few in
     let a = agrees (next size) p (t.private p) (t.shared (looks_at p (t.private p))) t.lock (s.private p k.0 k.1).stage in
-    subst⁻¹ (λ (x : Answer). Back false (Answered x)) a.number (stepped p (step_of (next size) t p).answer.event (omega (arith, k.1)) a.itself)
+    subst⁻¹ (λ (x : Answer). Back false (Ok x)) a.number (stepped p (step_of (next size) t p).answer.event (omega (arith, k.1)) a.itself)
 accepted (take_log room) b u = taken (length (read b).log) (table b (not-false _ u.0)).held
 
 pub loses_nothing : LosesNothing
 unfolding reply
 loses_nothing c b =
-    refused_or (Back (takes c)) (refused c b) Refused (Answered (answered (next size) c (read b))) (refusal (takes c)) (accepted c b)
+    refused_or (Back (takes c)) (refused c b) Err (Ok (answered (next size) c (read b))) (refusal (takes c)) (accepted c b)
 
 pub turns_too : TurnsToo
 unfolding packed unpacked event_of

@@ -1,12 +1,10 @@
 -- What a call says, as one number for other languages. Document 01, "What a call says": "The answer carries what happened and, for an admission,
 -- which module", "Taking the log answers 0 and its length", and a refusal "returns that number alone".
-use Rattle.std.specs.Prelude.{ℕ, ◌+◌, ◌-◌, ◌*◌, ◌/◌, ◌%◌, ◌≡◌, Bool, true, false, cond, List, eqb, leb}
-use Rattle.stage.specs.Answers.{module_admitted, length_taken}
+use Rattle.std.specs.Prelude.{ℕ, ◌+◌, ◌-◌, ◌*◌, ◌/◌, ◌%◌, ◌≡◌, Bool, true, false, cond, List, eqb, leb, Ok, Err}
+use Rattle.stage.specs.Answers.{module_admitted, length_taken, Reply}
 use Rattle.stage.specs.Calls.{Call, set_up, begin_acquisition, begin_release, step, take_log}
 use Rattle.stage.specs.declared.Event.{Event}
 use Rattle.stage.specs.declared.Event.TheVariants.{Done, Waiting, Admitted, Joined, Left, Finished, Taken, Nobody}
-use Rattle.stage.specs.declared.Reply.{Reply}
-use Rattle.stage.specs.declared.Reply.TheVariants.{Refused, Answered}
 use Rattle.image.specs.Call.{reply, image}
 use Rattle.image.specs.Turn.{GivesTurn}
 
@@ -17,8 +15,8 @@ top = 2147483648
 -- A refusal sets the top bit and gives its number alone. An answer gives its number in the lowest byte, the admitted module in the next, and
 -- the length of the log taken in the upper half.
 unfoldable pub packed : Reply → ℕ
-packed (Refused k) = top + k
-packed (Answered a) = a.number + 256 * module_admitted a.event + 65536 * length_taken a.event
+packed (Err k) = top + k
+packed (Ok a) = a.number + 256 * module_admitted a.event + 65536 * length_taken a.event
 
 -- what every contract of an exported call says: from the image b the call c answers r and leaves the image b'
 pub record Exports (c : Call) (b : List ℕ) (r : ℕ) (b' : List ℕ) : Type 0 where
@@ -59,8 +57,8 @@ event_of false number p k =
 unfoldable pub unpacked : Bool → ℕ → Reply
 unpacked log x =
     cond (leb top x)
-    (Refused (x - top))
-    (Answered (record { number = x % 256; event = event_of log (x % 256) (x / 256 % 256) (x / 65536) }))
+    (Err (x - top))
+    (Ok (record { number = x % 256; event = event_of log (x % 256) (x / 256 % 256) (x / 65536) }))
 
 -- What is proved of it: the packing loses nothing of what a call says on any image.
 abbrev pub LosesNothing : Type 0

@@ -2,7 +2,6 @@
 -- Assumes nothing.
 use mathlib.Core.Path.{◌≡◌, sym, ◌∙◌, ap, ap₂, subst, subst⁻¹}
 use mathlib.Core.List.{List}
-use mathlib.Core.Option.{some}
 use Prim.Native.Nat.{ℕ, ◌+◌, ◌-◌, ◌*◌, ◌≤◌}
 use native.Mathlib.Omega.{arith}
 use lib.ListN.{length}
@@ -11,7 +10,6 @@ use Rattle.stage.specs.Calls.{Call}
 use Rattle.stage.specs.Rows.{looks_at, stepped}
 use Rattle.stage.specs.Table.{step_of}
 use Rattle.stage.specs.declared.Private.{Private}
-use Rattle.stage.specs.declared.Reply.{Reply}
 use Rattle.stage.specs.declared.Shared.{Shared}
 use Rattle.stage.specs.declared.Stepped.{Stepped}
 use Rattle.stage.proofs.SoundCalls.{looks_known}
@@ -24,6 +22,8 @@ use Rattle.image.specs.declared.Found.TheVariants as found
 use Rattle.image.specs.Call.{Does}
 use Rattle.image.specs.Inside.{Framed, IsNumber, IsModule, given, unfound, Finds, Looks}
 use Rattle.image.proofs.Sound.{table}
+use Rattle.stage.specs.Answers.{Reply}
+use Rattle.std.specs.Prelude.{Some}
 
 pub entries : (b : List ℕ) (f : Frame) → Framed b f → length (read b).log ≡ f.held
 entries b f framed = length_held b framed.fits framed.held_fits ∙ sym framed.held_is
@@ -45,7 +45,7 @@ same_number call b {x = x} {b' = b'} same = subst (λ (j : ℕ). Does (call j) b
 
 -- the two ways out of the search for a module
 module _ (b : List ℕ) (p unknown : ℕ) (r : Found) (finds : Finds b p unknown r) where
-  pub was_refused : (k : ℕ) → r ≡ found.Refused k → given (unfound b p unknown) ≡ some k
+  pub was_refused : (k : ℕ) → r ≡ found.Refused k → given (unfound b p unknown) ≡ Some k
   was_refused k e = subst (Finds b p unknown) e finds
 
   pub was_found : (q : ℕ) → r ≡ found.Number q → IsNumber b q

@@ -14,7 +14,6 @@ use Rattle.stage.specs.Table.{begun_acquisition, begun_release, step_of, after_s
 use Rattle.stage.specs.declared.Answer.{Answer}
 use Rattle.stage.specs.declared.Event.TheVariants.{Done}
 use Rattle.stage.specs.declared.Private.{Private}
-use Rattle.stage.specs.declared.Reply.TheVariants.{Refused, Answered}
 use Rattle.layout.specs.Layout.{read, put}
 use Rattle.image.specs.Call.{refused, Does}
 use Rattle.image.specs.Inside.{given, unfound, IsNumber, IsModule, Looks}
@@ -22,16 +21,19 @@ use Rattle.image.specs.declared.Module.{Module}
 use Rattle.image.specs.declared.Looked.{Looked}
 use Rattle.image.proofs.Modules.{entries}
 use Rattle.image.proofs.Refusals.{in_range, refuses, accepts, found}
+use Rattle.stage.specs.declared.Refusal.TheVariants.{LogFull, PriorityOutOfRange, WrongStage}
+use Rattle.stage.specs.declared.Refusal.{Refusal}
+use Rattle.std.specs.Prelude.{Ok, Err}
 
 -- what each asks of a module that was found
-abbrev acquisition_asks : List ℕ → ℕ → ℕ → List (Bool × ℕ)
+abbrev acquisition_asks : List ℕ → ℕ → ℕ → List (Bool × Refusal)
 acquisition_asks b p r = (not (within 1 254 r), 3) ∷ (not (eqb ((read b).private p).stage 0), 4) ∷ []
 
 pub acquisition_refused : (b : List ℕ) (p r : ℕ) → refused (begin_acquisition p r) b ≡ unfound b p 2 ++ acquisition_asks b p r
 unfolding refused refusals unfound read
 acquisition_refused b p r = refl
 
-abbrev release_asks : List ℕ → ℕ → List (Bool × ℕ)
+abbrev release_asks : List ℕ → ℕ → List (Bool × Refusal)
 release_asks b p = (not (eqb ((read b).private p).stage 13), 4) ∷ []
 
 pub release_refused : (b : List ℕ) (p : ℕ) → refused (begin_release p) b ≡ unfound b p 2 ++ release_asks b p
@@ -41,7 +43,7 @@ release_refused b p = refl
 abbrev pub overfull : List ℕ → ℕ → Bool
 overfull b p = admits (step_of (next size) (read b) p).answer.event && leb capacity (length (read b).log)
 
-abbrev step_asks : List ℕ → ℕ → List (Bool × ℕ)
+abbrev step_asks : List ℕ → ℕ → List (Bool × Refusal)
 step_asks b p = (rests (read b) p, 4) ∷ (overfull b p, 5) ∷ []
 
 pub step_refused : (b : List ℕ) (p : ℕ) → refused (step p) b ≡ unfound b p 2 ++ step_asks b p
@@ -56,7 +58,7 @@ module _ (b : List ℕ) (m : Module) (is : IsModule b m) where
   stage_is = ap (λ (x : Private). x.stage) (sym is.me_is)
 
   -- past the search only what the call asks is left
-  asked : (c : Call) (es : List (Bool × ℕ)) → refused c b ≡ unfound b p 2 ++ es → given (refused c b) ≡ given es
+  asked : (c : Call) (es : List (Bool × Refusal)) → refused c b ≡ unfound b p 2 ++ es → given (refused c b) ≡ given es
   asked c es asks = found c b p es asks is.framed.is is.least is.most
 
   -- begin an acquisition
@@ -64,16 +66,16 @@ module _ (b : List ℕ) (m : Module) (is : IsModule b m) where
     acquisition_given : given (refused (begin_acquisition p r) b) ≡ given (acquisition_asks b p r)
     acquisition_given = asked (begin_acquisition p r) (acquisition_asks b p r) (acquisition_refused b p r)
 
-    pub no_priority : not (within 1 254 r) ≡ true → Does (begin_acquisition p r) b (Refused 3) b
+    pub no_priority : not (within 1 254 r) ≡ true → Does (begin_acquisition p r) b (Err PriorityOutOfRange) b
     unfolding given refusing
     no_priority outside = refuses (begin_acquisition p r) b 3 (acquisition_given ∙ simp outside)
 
     module _ (least : 1 ≤ r) (most : r ≤ 254) where
-      pub not_idle : (m.me.stage ≡ 0 → ⊥) → Does (begin_acquisition p r) b (Refused 4) b
+      pub not_idle : (m.me.stage ≡ 0 → ⊥) → Does (begin_acquisition p r) b (Err WrongStage) b
       unfolding given refusing
       not_idle h = refuses (begin_acquisition p r) b 4 (acquisition_given ∙ simp (in_range 1 254 r least most, stage_is, ne_eqb _ _ h))
 
-      pub acquires : {b' : List ℕ} → m.me.stage ≡ 0 → b' ≡ put (begun_acquisition (read b) p r) b → Does (begin_acquisition p r) b (Answered (answer_of Done)) b'
+      pub acquires : {b' : List ℕ} → m.me.stage ≡ 0 → b' ≡ put (begun_acquisition (read b) p r) b → Does (begin_acquisition p r) b (Ok (answer_of Done)) b'
       unfolding given refusing answered after
       acquires h put_is = accepts (begin_acquisition p r) b (acquisition_given ∙ simp (in_range 1 254 r least most, stage_is, h)) refl put_is
 
@@ -81,11 +83,11 @@ module _ (b : List ℕ) (m : Module) (is : IsModule b m) where
   release_given : given (refused (begin_release p) b) ≡ given (release_asks b p)
   release_given = asked (begin_release p) (release_asks b p) (release_refused b p)
 
-  pub not_inside : (m.me.stage ≡ 13 → ⊥) → Does (begin_release p) b (Refused 4) b
+  pub not_inside : (m.me.stage ≡ 13 → ⊥) → Does (begin_release p) b (Err WrongStage) b
   unfolding given refusing
   not_inside h = refuses (begin_release p) b 4 (release_given ∙ simp (stage_is, ne_eqb _ _ h))
 
-  pub releases : {b' : List ℕ} → m.me.stage ≡ 13 → b' ≡ put (begun_release (read b) p) b → Does (begin_release p) b (Answered (answer_of Done)) b'
+  pub releases : {b' : List ℕ} → m.me.stage ≡ 13 → b' ≡ put (begun_release (read b) p) b → Does (begin_release p) b (Ok (answer_of Done)) b'
   unfolding given refusing answered after
   releases h put_is = accepts (begin_release p) b (release_given ∙ simp (stage_is, h)) refl put_is
 
@@ -95,18 +97,18 @@ module _ (b : List ℕ) (p : ℕ) (is : IsNumber b p) where
   step_given = found (step p) b p (step_asks b p) (step_refused b p) is.0 is.1 is.2
 
   -- at 0 and 13 there is none
-  pub no_step : rests (read b) p ≡ true → Does (step p) b (Refused 4) b
+  pub no_step : rests (read b) p ≡ true → Does (step p) b (Err WrongStage) b
   unfolding given refusing
   no_step e = refuses (step p) b 4 (step_given ∙ simp e)
 
   module _ (moves : rests (read b) p ≡ false) where
-    pub full : overfull b p ≡ true → Does (step p) b (Refused 5) b
+    pub full : overfull b p ≡ true → Does (step p) b (Err LogFull) b
     unfolding given refusing
     full e = refuses (step p) b 5 (step_given ∙ simp (moves, e))
 
-    pub steps : {b' : List ℕ} (a : Answer) → overfull b p ≡ false → a ≡ (step_of (next size) (read b) p).answer → b' ≡ put (after_step (next size) (read b) p) b → Does (step p) b (Answered a) b'
+    pub steps : {b' : List ℕ} (a : Answer) → overfull b p ≡ false → a ≡ (step_of (next size) (read b) p).answer → b' ≡ put (after_step (next size) (read b) p) b → Does (step p) b (Ok a) b'
     unfolding given refusing answered after
-    steps a e says put_is = accepts (step p) b (step_given ∙ simp (moves, e)) (ap Answered says) put_is
+    steps a e says put_is = accepts (step p) b (step_given ∙ simp (moves, e)) (ap Ok says) put_is
 
 -- whether it would overfill the log, by what it looks at
 pub overfull_is : (b : List ℕ) (m : Module) (l : Looked) → Looks b m l → overfull b m.number ≡ (admits l.stepped.answer.event && leb capacity m.frame.held)

@@ -4,9 +4,9 @@ use mathlib.Core.Path.{◌≡◌, sym, ◌∙◌, ap}
 use mathlib.Core.List.{List}
 use Prim.Native.Nat.{ℕ}
 use Rattle.stage.specs.Calls.{Call, step}
-use Rattle.stage.specs.declared.Reply.{Reply}
 use Rattle.image.specs.Call.{buffer, Does}
 use Rattle.image.specs.Turn.{Turn, refused, nobody, step_by, turn_of, moved, Gives, GivesTurn}
+use Rattle.stage.specs.Answers.{Reply}
 
 pub one_outcome : (c : Call) (b : List ℕ) {r r' : Reply} {b₁ b₂ : List ℕ} → Does c b r b₁ → Does c b r' b₂ → (r ≡ r') × (b₁ ≡ b₂)
 one_outcome c b one other = (one.says ∙ sym other.says, one.leaves ∙ sym other.leaves)

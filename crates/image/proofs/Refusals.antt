@@ -3,47 +3,47 @@
 use mathlib.Core.Path.{◌≡◌, refl, sym, ◌∙◌, ap}
 use mathlib.Core.Bool.{Bool, true, false, not, cond}
 use mathlib.Core.List.{List, [], ◌∷◌, ◌++◌}
-use mathlib.Core.Option.{Option, none, some}
 use Prim.Native.Nat.{ℕ, ◌≤◌, ◌<◌}
 use borrow.Author.Tests.{le-leb, lt-leb}
 use lib.Dec.{leb}
 use Rattle.laws.proofs.Said.{no_right}
 use Rattle.link.specs.Count.{next, size}
 use Rattle.stage.specs.Calls.{Call, within, refusing, answered, after}
-use Rattle.stage.specs.declared.Reply.{Reply}
-use Rattle.stage.specs.declared.Reply.TheVariants.{Refused, Answered}
 use Rattle.layout.specs.Layout.{modules, read, put}
 use Rattle.soundness.specs.SoundImage.{sound}
 use Rattle.image.specs.Call.{refused, reply, image, Does}
 use Rattle.image.specs.Inside.{given, unfound}
+use Rattle.stage.specs.Answers.{Reply}
+use Rattle.stage.specs.declared.Refusal.{Refusal}
+use Rattle.std.specs.Prelude.{Option, None, Some, Ok, Err}
 
 -- all that a list of refusals says is the number given
 module _ {A : Type 0} (no_k : ℕ → A) (yes_a : A) where
   abbrev pub by : Option ℕ → A
-  by none = yes_a
-  by (some k) = no_k k
+  by None = yes_a
+  by (Some k) = no_k k
 
-  by_given : (es : List (Bool × ℕ)) → refusing es no_k yes_a ≡ by (given es)
+  by_given : (es : List (Bool × Refusal)) → refusing es no_k yes_a ≡ by (given es)
   unfolding refusing given
   by_given [] = refl
   by_given (e ∷ es) = here e.0 (by_given es)
     where
-      here : (t : Bool) → refusing es no_k yes_a ≡ by (given es) → cond t (no_k e.1) (refusing es no_k yes_a) ≡ by (cond t (some e.1) (given es))
+      here : (t : Bool) → refusing es no_k yes_a ≡ by (given es) → cond t (no_k e.1) (refusing es no_k yes_a) ≡ by (cond t (Some e.1) (given es))
       here true rest = refl
       here false rest = rest
 
-  pub chosen : (es : List (Bool × ℕ)) (o : Option ℕ) → given es ≡ o → refusing es no_k yes_a ≡ by o
+  pub chosen : (es : List (Bool × Refusal)) (o : Option ℕ) → given es ≡ o → refusing es no_k yes_a ≡ by o
   chosen es o g = by_given es ∙ ap by g
 
 -- what a call does where it is refused, and where it is not
 module _ (c : Call) (b : List ℕ) where
-  pub refuses : (k : ℕ) → given (refused c b) ≡ some k → Does c b (Refused k) b
+  pub refuses : (k : ℕ) → given (refused c b) ≡ Some k → Does c b (Err k) b
   unfolding reply image
-  refuses k g = record { says = sym (chosen Refused _ (refused c b) (some k) g); leaves = sym (chosen (λ j. b) _ (refused c b) (some k) g) }
+  refuses k g = record { says = sym (chosen Err _ (refused c b) (Some k) g); leaves = sym (chosen (λ j. b) _ (refused c b) (Some k) g) }
 
-  pub accepts : {r : Reply} {b' : List ℕ} → given (refused c b) ≡ none → r ≡ Answered (answered (next size) c (read b)) → b' ≡ put (after (next size) c (read b)) b → Does c b r b'
+  pub accepts : {r : Reply} {b' : List ℕ} → given (refused c b) ≡ None → r ≡ Ok (answered (next size) c (read b)) → b' ≡ put (after (next size) c (read b)) b → Does c b r b'
   unfolding reply image
-  accepts g says leaves = record { says = says ∙ sym (chosen Refused _ (refused c b) none g); leaves = leaves ∙ sym (chosen (λ j. b) _ (refused c b) none g) }
+  accepts g says leaves = record { says = says ∙ sym (chosen Err _ (refused c b) None g); leaves = leaves ∙ sym (chosen (λ j. b) _ (refused c b) None g) }
 
 -- a number outside a range, and inside it
 module _ (a b x : ℕ) where
@@ -58,19 +58,19 @@ module _ (a b x : ℕ) where
 
 -- what everything that names a module asks
 module _ (b : List ℕ) (p unknown : ℕ) where
-  pub unsound : sound b ≡ false → given (unfound b p unknown) ≡ some 1
+  pub unsound : sound b ≡ false → given (unfound b p unknown) ≡ Some 1
   unfolding refusing given unfound
   unsound no_b = simp no_b
 
-  pub no_module : sound b ≡ true → not (within 1 (modules b) p) ≡ true → given (unfound b p unknown) ≡ some unknown
+  pub no_module : sound b ≡ true → not (within 1 (modules b) p) ≡ true → given (unfound b p unknown) ≡ Some unknown
   unfolding refusing given unfound
   no_module is outside = simp (is, outside)
 
 -- a call that names module p asks that, and then es
-module _ (c : Call) (b : List ℕ) (p : ℕ) (es : List (Bool × ℕ)) (asks : refused c b ≡ unfound b p 2 ++ es) where
-  pub not_found : (k : ℕ) → given (unfound b p 2) ≡ some k → Does c b (Refused k) b
+module _ (c : Call) (b : List ℕ) (p : ℕ) (es : List (Bool × Refusal)) (asks : refused c b ≡ unfound b p 2 ++ es) where
+  pub not_found : (k : ℕ) → given (unfound b p 2) ≡ Some k → Does c b (Err k) b
   unfolding refusing given unfound
-  not_found k g = refuses c b k (ap given asks ∙ chosen some (given es) (unfound b p 2) (some k) g)
+  not_found k g = refuses c b k (ap given asks ∙ chosen Some (given es) (unfound b p 2) (Some k) g)
 
   pub found : sound b ≡ true → 1 ≤ p → p ≤ modules b → given (refused c b) ≡ given es
   unfolding refusing given unfound

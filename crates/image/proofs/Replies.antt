@@ -5,15 +5,13 @@ use mathlib.Core.Bool.{Bool, true, false, ◌&&◌}
 use mathlib.Core.List.{List}
 use lib.Dec.{leb}
 use Rattle.link.specs.Count.{next, size}
-use Rattle.stage.specs.Answers.{answer_of}
+use Rattle.stage.specs.Answers.{answer_of, Reply}
 use Rattle.stage.specs.Calls.{step, rests, admits, capacity}
 use Rattle.stage.specs.Rows.{looks_at}
 use Rattle.stage.specs.Table.{step_of, after_step}
 use Rattle.stage.specs.declared.Answer.{Answer}
 use Rattle.stage.specs.declared.Event.{Event}
 use Rattle.stage.specs.declared.Event.TheVariants.{Done, Waiting, Admitted, Joined, Left, Finished, Taken, Nobody}
-use Rattle.stage.specs.declared.Reply.{Reply}
-use Rattle.stage.specs.declared.Reply.TheVariants.{Refused, Answered}
 use Rattle.stage.specs.declared.Stepped.{Stepped}
 use Rattle.stage.proofs.Events.{Of, agrees}
 use Rattle.layout.specs.Layout.{read, put}
@@ -23,25 +21,27 @@ use Rattle.image.specs.declared.Module.{Module}
 use Rattle.image.specs.declared.Looked.{Looked}
 use Rattle.image.proofs.Named.{full, steps, overfull_is}
 use Rattle.image.proofs.Sound.{table}
+use Rattle.stage.specs.declared.Refusal.TheVariants.{LogFull}
+use Rattle.std.specs.Prelude.{Ok, Err}
 
 -- the number of an answer, read back: every event of a step
-by_number : (p : ℕ) (e : Event) → Of p e → replied p (answer_of e).number ≡ Answered (answer_of e)
+by_number : (p : ℕ) (e : Event) → Of p e → replied p (answer_of e).number ≡ Ok (answer_of e)
 unfolding replied
 by_number p Done o = refl
 by_number p Waiting o = refl
-by_number p (Admitted q) o = ap (λ (j : ℕ). Answered (answer_of (Admitted j))) (sym o)
+by_number p (Admitted q) o = ap (λ (j : ℕ). Ok (answer_of (Admitted j))) (sym o)
 by_number p Joined o = refl
 by_number p Left o = refl
 by_number p Finished o = refl
 by_number p (Taken k) o = absurd o
 by_number p Nobody o = absurd o
 
-pub answer_said : (b : List ℕ) (p : ℕ) → IsNumber b p → (a : Answer) → a ≡ (step_of (next size) (read b) p).answer → replied p a.number ≡ Answered a
+pub answer_said : (b : List ℕ) (p : ℕ) → IsNumber b p → (a : Answer) → a ≡ (step_of (next size) (read b) p).answer → replied p a.number ≡ Ok a
 unfolding step_of read
 answer_said b p is a e =
     let t = read b in
     let says = agrees (next size) p (t.private p) (t.shared (looks_at p (t.private p))) t.lock ((table b is.0).private p is.1 is.2).stage in
-    subst⁻¹ (λ (x : Answer). replied p x.number ≡ Answered x) (e ∙ says.number) (by_number p (step_of (next size) t p).answer.event says.itself)
+    subst⁻¹ (λ (x : Answer). replied p x.number ≡ Ok x) (e ∙ says.number) (by_number p (step_of (next size) t p).answer.event says.itself)
 
 -- a step of p by its reply, and by the number that the reply is read out of
 pub by_reply : (p : ℕ) (b : List ℕ) {r r' : Reply} {b' : List ℕ} → r ≡ r' → Does (step p) b r' b' → Does (step p) b r b'
@@ -58,7 +58,7 @@ module _ (b : List ℕ) (m : Module) (l : Looked) (looks : Looks b m l) where
   pub row_full : (p : ℕ) → m.number ≡ p → rests (read b) p ≡ false → asks ≡ true → Says p b 21 b
   unfolding replied
   row_full p same moves e =
-      subst (λ (j : ℕ). Does (step j) b (Refused 5) b) same (full b m.number numbered (ap (rests (read b)) same ∙ moves) (overfull_is b m l looks ∙ e))
+      subst (λ (j : ℕ). Does (step j) b (Err LogFull) b) same (full b m.number numbered (ap (rests (read b)) same ∙ moves) (overfull_is b m l looks ∙ e))
 
   pub row_steps : (p : ℕ) {b' : List ℕ} → m.number ≡ p → rests (read b) p ≡ false → asks ≡ false → b' ≡ put (after_step (next size) (read b) m.number) b → Says p b l.stepped.answer.number b'
   row_steps p {b'} same moves e put_is =

@@ -12,11 +12,9 @@ use borrow.Author.Tests.{le-leb}
 use Rattle.laws.proofs.Said.{no_left}
 use Rattle.link.specs.Count.{next, size}
 use Rattle.inplace.specs.InPlace.{lies, link_at, link_put, left, swapped_in}
-use Rattle.link.specs.Operations.{swapped}
+use Rattle.link.specs.Operations.{swapped, Swapped}
 use Rattle.link.specs.declared.Link.{Link}
 use Rattle.inplace.specs.declared.Place.{Place}
-use Rattle.link.specs.declared.Swapped.{Swapped}
-use Rattle.link.specs.declared.Swapped.TheVariants as swap
 use Rattle.stage.specs.Answers.{answer_of}
 use Rattle.stage.specs.Calls.{admits}
 use Rattle.stage.specs.Rows.{goes, with_w, with_link, after9, find, rows, looked, looks_at, stepped}
@@ -40,6 +38,7 @@ use Rattle.image.proofs.Named.{steps}
 use Rattle.image.proofs.Replies.{answer_said, by_reply}
 use Rattle.image.proofs.Sound.{written}
 use Rattle.image.proofs.Stored.{at_first, room, kept}
+use Rattle.std.specs.Prelude.{Ok, Err}
 
 -- the mark of a link that was put at a place, where its count lies elsewhere
 mark_put : (b : List ℕ) (l : Place) (x : Link) → l.pointer + 2 ≤ length b → l.pointer + 1 < l.count → byte (link_put b l x) (l.pointer + 1) ≡ x.mark
@@ -138,7 +137,7 @@ module _ (b : List ℕ) (p : ℕ) (is : IsNumber b p) (nine : byte b (record_at 
       }
 
   module _ (a : After) {b₁ b₂ : List ℕ} (stored : b₂ ≡ set b₁ (record_at b p) a.stage) where
-    was_done : (l : Link) → swap_is ≡ swap.Done l → b₁ ≡ link_put b found l → Follows true (byte b₁ (wanted.pointer + 1)) a → Took a b₂
+    was_done : (l : Link) → swap_is ≡ Ok l → b₁ ≡ link_put b found l → Follows true (byte b₁ (wanted.pointer + 1)) a → Took a b₂
     unfolding read
     was_done l e put_is follows =
         let row_is = follows me its t.lock l in
@@ -148,7 +147,7 @@ module _ (b : List ℕ) (p : ℕ) (is : IsNumber b p) (nine : byte b (record_at 
         (stored ∙ ap (λ (x : List ℕ). set x (record_at b p) a.stage) linked
         ∙ sym (put_stage (with_shared t me.prev (with_link l its)) b (room b is.0 bytes) p a.stage is.1 is.2))
 
-    was_failed : (l : Link) → swap_is ≡ swap.Failed l → b₁ ≡ link_put b wanted l → Follows false (byte b₁ (wanted.pointer + 1)) a → Took a b₂
+    was_failed : (l : Link) → swap_is ≡ Err l → b₁ ≡ link_put b wanted l → Follows false (byte b₁ (wanted.pointer + 1)) a → Took a b₂
     unfolding read
     was_failed l e put_is follows =
         let mark : l.mark ≡ byte b₁ (wanted.pointer + 1) = sym (ap (λ (x : List ℕ). byte x (wanted.pointer + 1)) put_is ∙ mark_put b wanted l (omega (arith, fits, is.1, is.2)) (omega arith)) in
@@ -160,8 +159,8 @@ module _ (b : List ℕ) (p : ℕ) (is : IsNumber b p) (nine : byte b (record_at 
 
     by_what : (s : Swapped) → swap_is ≡ s → (done : Bool) → done ≡ (left s b found wanted).0 → b₁ ≡ (left s b found wanted).1 → Follows done (byte b₁ (wanted.pointer + 1)) a → Took a b₂
     unfolding left
-    by_what (swap.Done l) e done says put_is follows = was_done l e put_is (subst (λ (x : Bool). Follows x (byte b₁ (wanted.pointer + 1)) a) says follows)
-    by_what (swap.Failed l) e done says put_is follows = was_failed l e put_is (subst (λ (x : Bool). Follows x (byte b₁ (wanted.pointer + 1)) a) says follows)
+    by_what (Ok l) e done says put_is follows = was_done l e put_is (subst (λ (x : Bool). Follows x (byte b₁ (wanted.pointer + 1)) a) says follows)
+    by_what (Err l) e done says put_is follows = was_failed l e put_is (subst (λ (x : Bool). Follows x (byte b₁ (wanted.pointer + 1)) a) says follows)
 
     took : (done : Bool) → (done ≡ (swapped_in (next size) b found wanted p).0) × (b₁ ≡ (swapped_in (next size) b found wanted p).1) → Follows done (byte b₁ (wanted.pointer + 1)) a → Took a b₂
     took done swaps = by_what swap_is refl done (swaps.0 ∙ ap (λ (x : Bool × List ℕ). x.0) swapped_there) (swaps.1 ∙ ap (λ (x : Bool × List ℕ). x.1) swapped_there)

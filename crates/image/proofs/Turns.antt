@@ -3,18 +3,15 @@ use Prim.Native.Nat.{ℕ, suc, ◌+◌, ◌-◌, ◌*◌, ◌≤◌, ◌<◌}
 use mathlib.Core.Path.{◌≡◌, refl, sym, ◌∙◌, ap, ap₂, subst, subst⁻¹}
 use mathlib.Core.Bool.{Bool, true, false, cond, not, ◌||◌}
 use mathlib.Core.List.{List, [], ◌∷◌, ◌++◌}
-use mathlib.Core.Option.{Option, none, some}
 use native.Mathlib.Omega.{arith}
 use native.Mathlib.Numerals.{add-one}
 use lib.Dec.{eqb}
 use Rattle.stage.proofs.Around.{first_known}
-use Rattle.stage.specs.Answers.{answer_of}
+use Rattle.stage.specs.Answers.{answer_of, Reply}
 use Rattle.stage.specs.Calls.{step, refusing, rests}
 use Rattle.stage.specs.Turns.{from, around, first_that, next_after}
 use Rattle.stage.specs.declared.Event.TheVariants.{Nobody}
 use Rattle.stage.specs.declared.Private.{Private}
-use Rattle.stage.specs.declared.Reply.{Reply}
-use Rattle.stage.specs.declared.Reply.TheVariants.{Refused, Answered}
 use Rattle.layout.specs.Layout.{modules, record_at, private_at, read, byte}
 use Rattle.layout.proofs.Rewritten.{private_read}
 use Rattle.image.specs.declared.Frame.{Frame}
@@ -25,30 +22,31 @@ use Rattle.image.specs.Call.{Does}
 use Rattle.image.specs.Inside.{Framed, IsNumber, given, unfound, first_able, Tells}
 use Rattle.image.specs.Turn.{Turn, refused, found, turn_of, moved, Gives, GivesTurn}
 use Rattle.image.proofs.Refusals.{chosen, in_range}
+use Rattle.std.specs.Prelude.{Option, None, Some, Ok, Err}
 
 -- one of the numbers from q to the one before `end` on
 module _ (f : ℕ → Bool) (q end : ℕ) where
-  pub none_left : end ≤ q → first_that f (from q (end - q)) ≡ none
+  pub none_left : end ≤ q → first_that f (from q (end - q)) ≡ None
   unfolding from first_that
   none_left over = ap (λ (k : ℕ). first_that f (from q k)) (let z : end - q ≡ 0 = omega arith in z)
 
   module _ (before : q < end) where
-    one_on : first_that f (from q (end - q)) ≡ cond (f q) (some q) (first_that f (from (suc q) (end - suc q)))
+    one_on : first_that f (from q (end - q)) ≡ cond (f q) (Some q) (first_that f (from (suc q) (end - suc q)))
     unfolding from first_that
     one_on = ap (λ (k : ℕ). first_that f (from q k)) (let z : end - q ≡ suc (end - suc q) = omega arith in z)
 
-    pub passes : f q ≡ true → first_that f (from q (end - q)) ≡ some q
-    passes e = one_on ∙ ap (λ (x : Bool). cond x (some q) (first_that f (from (suc q) (end - suc q)))) e
+    pub passes : f q ≡ true → first_that f (from q (end - q)) ≡ Some q
+    passes e = one_on ∙ ap (λ (x : Bool). cond x (Some q) (first_that f (from (suc q) (end - suc q)))) e
 
     pub skips : f q ≡ false → first_that f (from q (end - q)) ≡ first_that f (from (q + 1) (end - (q + 1)))
     skips e =
-        one_on ∙ ap (λ (x : Bool). cond x (some q) (first_that f (from (suc q) (end - suc q)))) e
+        one_on ∙ ap (λ (x : Bool). cond x (Some q) (first_that f (from (suc q) (end - suc q)))) e
         ∙ ap (λ (k : ℕ). first_that f (from k (end - k))) (sym (add-one q))
 
 -- the first of two lists one after the other
 abbrev pub or_else : Option ℕ → Option ℕ → Option ℕ
-or_else none o = o
-or_else (some p) o = some p
+or_else None o = o
+or_else (Some p) o = Some p
 
 pub either : (f : ℕ → Bool) (xs ys : List ℕ) → first_that f (xs ++ ys) ≡ or_else (first_that f xs) (first_that f ys)
 unfolding first_that
@@ -56,7 +54,7 @@ either f [] ys = refl
 either f (x ∷ xs) ys = go (f x) (either f xs ys)
   where
     go : (t : Bool) → first_that f (xs ++ ys) ≡ or_else (first_that f xs) (first_that f ys)
-        → cond t (some x) (first_that f (xs ++ ys)) ≡ or_else (cond t (some x) (first_that f xs)) (first_that f ys)
+        → cond t (Some x) (first_that f (xs ++ ys)) ≡ or_else (cond t (Some x) (first_that f xs)) (first_that f ys)
     go true others = refl
     go false others = others
 
@@ -97,9 +95,9 @@ marked b q m r b' m' = subst (λ (k : ℕ). GivesTurn b k r b' m')
 
 -- a turn, by what was found
 module _ (b : List ℕ) (m : ℕ) where
-  pub no_turn : (k : ℕ) → given (unfound b m 10) ≡ some k → GivesTurn b m (Refused k) b m
+  pub no_turn : (k : ℕ) → given (unfound b m 10) ≡ Some k → GivesTurn b m (Err k) b m
   unfolding turn_of unfound read
-  no_turn k g = subst⁻¹ (λ (t : Turn). Gives t b m (Refused k) b m) (chosen refused (found (next_after (read b) m)) (unfound b m 10) (some k) g) (refl, refl, refl)
+  no_turn k g = subst⁻¹ (λ (t : Turn). Gives t b m (Err k) b m) (chosen refused (found (next_after (read b) m)) (unfound b m 10) (Some k) g) (refl, refl, refl)
 
   module _ (is : IsNumber b m) where
     turn_is : (o : Option ℕ) → next_after (read b) m ≡ o → turn_of b m ≡ found o
@@ -110,14 +108,14 @@ module _ (b : List ℕ) (m : ℕ) where
     unfolding next_after read
     is_known r p tells e = let known = first_known (λ q. not (rests (read b) q)) (modules b) m is.2 p (subst (Tells (next_after (read b) m)) e tells) in (is.0, known.0, known.1)
 
-    pub nobody_steps : (r : Next) → Tells (next_after (read b) m) r → r ≡ next.Nobody → GivesTurn b m (Answered (answer_of Nobody)) b m
+    pub nobody_steps : (r : Next) → Tells (next_after (read b) m) r → r ≡ next.Nobody → GivesTurn b m (Ok (answer_of Nobody)) b m
     nobody_steps r tells e =
-        subst⁻¹ (λ (t : Turn). Gives t b m (Answered (answer_of Nobody)) b m) (turn_is none (subst (Tells (next_after (read b) m)) e tells)) (refl, refl, refl)
+        subst⁻¹ (λ (t : Turn). Gives t b m (Ok (answer_of Nobody)) b m) (turn_is None (subst (Tells (next_after (read b) m)) e tells)) (refl, refl, refl)
 
     pub steps : {r : Reply} {b' : List ℕ} (x : Turned) (n : Next) (p : ℕ) → Tells (next_after (read b) m) n → n ≡ next.Module p → Does (step p) b r b'
         → (x.reply ≡ r) × (x.last ≡ moved p m r) → GivesTurn b m x.reply b' x.last
     steps {r} {b'} x n p tells e does to =
-        subst⁻¹ (λ (t : Turn). Gives t b m x.reply b' x.last) (turn_is (some p) (subst (Tells (next_after (read b) m)) e tells)) (
+        subst⁻¹ (λ (t : Turn). Gives t b m x.reply b' x.last) (turn_is (Some p) (subst (Tells (next_after (read b) m)) e tells)) (
           subst⁻¹ (λ (z : Reply). Does (step p) b z b') to.0 does,
           to.1 ∙ ap (moved p m) (sym to.0),
         )

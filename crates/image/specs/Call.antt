@@ -1,23 +1,23 @@
 -- The five calls on an image: refuse by number, or the machine's call between reading and writing. Document 01, "What a call says".
-use Rattle.std.specs.Prelude.{ℕ, ◌≡◌, Bool, cond, not, ◌&&◌, List, ◌∷◌, ◌++◌, leb, length, drop}
+use Rattle.std.specs.Prelude.{ℕ, ◌≡◌, Bool, cond, not, ◌&&◌, List, ◌∷◌, ◌++◌, leb, length, drop, Ok, Err}
 use Rattle.link.specs.Count.{next, size}
 use Rattle.stage.specs.Calls.{Call, take_log, asks_sound, refusals, refusing, answered, after}
-use Rattle.stage.specs.declared.Reply.{Reply}
-use Rattle.stage.specs.declared.Reply.TheVariants.{Refused, Answered}
 use Rattle.layout.specs.Layout.{length_for, read, put}
 use Rattle.soundness.specs.SoundImage.{sound}
+use Rattle.stage.specs.Answers.{Reply}
+use Rattle.stage.specs.declared.Refusal.{Refusal}
 
 -- "set-up buffer shorter than 16n + 268"
 abbrev pub fits : List ℕ → ℕ → Bool
 fits b k = leb (length_for k) (length b)
 
 -- all that a call on the image b may be refused for, with the number given
-unfoldable pub refused : Call → List ℕ → List (Bool × ℕ)
+unfoldable pub refused : Call → List ℕ → List (Bool × Refusal)
 refused c b = (asks_sound c && not (sound b), 1) ∷ refusals (next size) (fits b) c (read b)
 
 -- what a call on the image b says
 unfoldable pub reply : Call → List ℕ → Reply
-reply c b = refusing (refused c b) Refused (Answered (answered (next size) c (read b)))
+reply c b = refusing (refused c b) Err (Ok (answered (next size) c (read b)))
 
 -- the image after it: where it was refused, every byte as it was
 unfoldable pub image : Call → List ℕ → List ℕ

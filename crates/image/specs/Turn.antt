@@ -1,12 +1,9 @@
 -- A turn on an image, with the marker m. Document 02, R-2.
-use Rattle.std.specs.Prelude.{ℕ, ◌≡◌, not, List, [], ◌∷◌}
-use Rattle.std.proofs.Math.Option.{Option, none, some}
-use Rattle.stage.specs.Answers.{answer_of}
+use Rattle.std.specs.Prelude.{ℕ, ◌≡◌, not, List, [], ◌∷◌, Option, None, Some, Ok, Err}
+use Rattle.stage.specs.Answers.{answer_of, Reply}
 use Rattle.stage.specs.Calls.{step, within, refusing}
 use Rattle.stage.specs.Turns.{next_after}
 use Rattle.stage.specs.declared.Event.TheVariants.{Nobody}
-use Rattle.stage.specs.declared.Reply.{Reply}
-use Rattle.stage.specs.declared.Reply.TheVariants.{Refused, Answered}
 use Rattle.layout.specs.Layout.{read}
 use Rattle.soundness.specs.SoundImage.{sound}
 use Rattle.image.specs.Call.{Does}
@@ -18,8 +15,8 @@ pub data Turn : Type 0 where
   step_by : ℕ → Turn
 
 abbrev pub found : Option ℕ → Turn
-found none = nobody
-found (some p) = step_by p
+found None = nobody
+found (Some p) = step_by p
 
 -- "Refusals: 10, marker not 1 to n, after 1."
 unfoldable pub turn_of : List ℕ → ℕ → Turn
@@ -27,15 +24,15 @@ turn_of b m = refusing ((not (sound b), 1) ∷ (not (within 1 (read b).n m), 10)
 
 -- the marker, where the step of p says r: it is "moved on", but "where it is refused 5, so is the turn"
 abbrev pub moved : ℕ → ℕ → Reply → ℕ
-moved p m (Refused k) = m
-moved p m (Answered a) = p
+moved p m (Err k) = m
+moved p m (Ok a) = p
 
 -- From the image b and the marker m the turn says r, and leaves the image b' and the marker m'. "The step obeys demand 2": it is held to what
 -- the call `step` is held to.
 abbrev pub Gives : Turn → (b : List ℕ) (m : ℕ) (r : Reply) (b' : List ℕ) (m' : ℕ) → Type 0
-Gives (refused k) b m r b' m' = (r ≡ Refused k) × (b' ≡ b) × (m' ≡ m)
+Gives (refused k) b m r b' m' = (r ≡ Err k) × (b' ≡ b) × (m' ≡ m)
 -- "If nobody can step, the answer is 9 and the marker stays."
-Gives nobody b m r b' m' = (r ≡ Answered (answer_of Nobody)) × (b' ≡ b) × (m' ≡ m)
+Gives nobody b m r b' m' = (r ≡ Ok (answer_of Nobody)) × (b' ≡ b) × (m' ≡ m)
 Gives (step_by p) b m r b' m' = Does (step p) b r b' × (m' ≡ moved p m r)
 
 abbrev pub GivesTurn : (b : List ℕ) (m : ℕ) (r : Reply) (b' : List ℕ) (m' : ℕ) → Type 0

@@ -1,10 +1,8 @@
 -- A link that stays where it lies in bytes, and its swap. Document 02, R-3: "Compare in the image itself; no answer or byte differs."
-use Rattle.std.specs.Prelude.{ℕ, ◌+◌, ◌*◌, ◌/◌, ◌%◌, ◌≤◌, Bool, true, false, cond, ◌&&◌, List, length, nat_le, slice_index, slice_set}
-use Rattle.link.specs.Operations.{swapped}
+use Rattle.std.specs.Prelude.{ℕ, ◌+◌, ◌*◌, ◌/◌, ◌%◌, ◌≤◌, Bool, true, false, cond, ◌&&◌, List, length, nat_le, slice_index, slice_set, Ok, Err}
+use Rattle.link.specs.Operations.{swapped, Swapped}
 use Rattle.link.specs.declared.Link.{Link}
 use Rattle.inplace.specs.declared.Place.{Place}
-use Rattle.link.specs.declared.Swapped.{Swapped}
-use Rattle.link.specs.declared.Swapped.TheVariants.{Done, Failed}
 
 -- whether a link at this place lies within so many bytes
 unfoldable pub lies : Place → ℕ → Bool
@@ -28,8 +26,8 @@ link_put b l x =
 
 -- What a swap says, and the bytes that it leaves. "If not, nothing changes and the link found is handed back": to where the expected one lies.
 unfoldable pub left : Swapped → List ℕ → Place → Place → Bool × List ℕ
-left (Done now) b l expected = (true, link_put b l now)
-left (Failed found) b l expected = (false, link_put b expected found)
+left (Ok now) b l expected = (true, link_put b l now)
+left (Err found) b l expected = (false, link_put b expected found)
 
 -- the swap of the link at l, expecting the one at another place. Where either does not lie within the bytes, nothing happens.
 unfoldable pub swapped_in : (ℕ → ℕ) → List ℕ → Place → Place → ℕ → Bool × List ℕ

@@ -9,8 +9,6 @@ use Rattle.stage.proofs.Update.{upd_all}
 use Rattle.stage.specs.Calls.{Call, set_up, begin_acquisition, begin_release, step, take_log, answered, after}
 use Rattle.stage.specs.Table.{Table, upd, idle, fresh_table, begun_acquisition, begun_release, step_of, after_step, log_taken}
 use Rattle.stage.specs.declared.Private.{Private}
-use Rattle.stage.specs.declared.Reply.{Reply}
-use Rattle.stage.specs.declared.Reply.TheVariants.{Answered}
 use Rattle.line.specs.Corollaries.{OneOf, step_in, stands, unless_set_up, standing, steps_now, own_steps, leaves_now, succeeded, Corollaries, Relied}
 use Rattle.line.specs.Demand3.{Found}
 use Rattle.line.specs.History.{Desk, Transcript, start, course, heard, accepted, state, table, transcript}
@@ -25,6 +23,8 @@ use Rattle.line.proofs.OneFound.{found_one, found_wraps}
 use Rattle.line.proofs.Places.{Sorted}
 use Rattle.line.proofs.Remembering.{Released, Away, no_release, Latest, Remembered, step_remembers}
 use Rattle.line.proofs.WrapCalls.{wrap}
+use Rattle.stage.specs.Answers.{Reply}
+use Rattle.std.specs.Prelude.{Ok, Err}
 
 -- a call that is no step, and takes a module to a stage that is no release's
 begins : (h : Transcript) (private : ℕ → Private) → Remembered h private → (p : ℕ) (me' : Private) → Away me'.stage
@@ -33,7 +33,7 @@ begins h private m p me' away =
     upd_all private p me' (Released (course h).line (λ r. own_steps r h) (λ r. succeeded r h)) (no_release me'.stage away) (λ q _. m.released q)
 
 accepted_remembers : (c : Call) (h : Transcript) {taken : List ℕ} (t : Table) → Kept (course h) taken t → Remembered h t.private
-    → Remembered ((c, Answered (answered suc c t)) ∷ h) (after suc c t).private
+    → Remembered ((c, Ok (answered suc c t)) ∷ h) (after suc c t).private
 unfolding answered after fresh_table idle begun_acquisition begun_release step_of after_step log_taken start course heard accepted
     standing unless_set_up step_in stands own_steps steps_now succeeded leaves_now
 accepted_remembers (set_up k) h t kept m = record { stood = none_stood; released = λ q. absurd; latest = tt }

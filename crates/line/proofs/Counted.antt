@@ -11,9 +11,8 @@ use native.Mathlib.Omega.{arith}
 use Rattle.laws.proofs.Cases.{choose}
 use Rattle.laws.proofs.Only.{among}
 use Rattle.laws.proofs.Said.{no_right}
-use Rattle.link.specs.Operations.{CLOSED, changed, same, swapped}
+use Rattle.link.specs.Operations.{CLOSED, changed, same, swapped, Swapped}
 use Rattle.link.specs.declared.Link.{Link}
-use Rattle.link.specs.declared.Swapped.{Swapped}
 use Rattle.stage.proofs.Update.{upd_all, upd_kept}
 use Rattle.stage.specs.Calls.{Call, set_up, begin_acquisition, begin_release, step, take_log, after}
 use Rattle.stage.specs.Rows.{find, rows, looked, looks_at, stepped, after9, last}

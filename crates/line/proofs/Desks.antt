@@ -9,10 +9,10 @@ use Rattle.laws.proofs.Cases.{choose, both_hold}
 use Rattle.stage.proofs.Refusing.{Unrefused, refused_or}
 use Rattle.stage.specs.Calls.{Call, set_up, begin_acquisition, begin_release, step, take_log, refusals, answered, after, called}
 use Rattle.stage.specs.Table.{Table}
-use Rattle.stage.specs.declared.Reply.{Reply}
-use Rattle.stage.specs.declared.Reply.TheVariants.{Refused, Answered}
 use Rattle.line.specs.History.{Desk}
 use Rattle.line.specs.Mixed.{unraised, left_before, sound_before, called_by, mixed}
+use Rattle.stage.specs.Answers.{Reply}
+use Rattle.std.specs.Prelude.{Ok, Err}
 
 -- The machine as a desk: `bump` is how a link's count changes, `fits k` whether there is room for k modules.
 abbrev pub machine : (ℕ → ℕ) → (ℕ → Bool) → Desk
@@ -38,8 +38,8 @@ left_or P (step p) t t' today on =
 left_or P (take_log room) t t' today on = today
 
 module _ (bump : ℕ → ℕ) (fits : ℕ → Bool) (c : Call) (t : Table) (P : Reply × Table → Type 0)
-    (refused : (k : ℕ) → P (Refused k, t))
-    (accepted : Unrefused (refusals bump fits c t) → P (Answered (answered bump c t), after bump c t)) where
+    (refused : (k : ℕ) → P (Err k, t))
+    (accepted : Unrefused (refusals bump fits c t) → P (Ok (answered bump c t), after bump c t)) where
   today : P (called bump fits c t)
   unfolding called
   today = refused_or P (refusals bump fits c t) _ _ refused accepted

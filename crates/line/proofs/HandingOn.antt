@@ -14,8 +14,6 @@ use Rattle.stage.proofs.Update.{upd_all}
 use Rattle.stage.specs.Calls.{Call, set_up, begin_acquisition, begin_release, step, take_log, refusals, answered, after, called}
 use Rattle.stage.specs.Table.{Table, upd, fresh_table, begun_acquisition, begun_release, log_taken}
 use Rattle.stage.specs.declared.Private.{Private}
-use Rattle.stage.specs.declared.Reply.{Reply}
-use Rattle.stage.specs.declared.Reply.TheVariants.{Refused, Answered}
 use Rattle.line.specs.Corollaries.{step_in, steps_now}
 use Rattle.line.specs.Demand3.{Premise}
 use Rattle.line.specs.History.{Desk, Course, Transcript, Ongoing, accepted, heard, course, state, table, transcript}
@@ -29,6 +27,9 @@ use Rattle.line.proofs.Modular.{follows}
 use Rattle.line.proofs.Release.{busy, Leaves, Freed, Goes, HandsOn}
 use Rattle.line.proofs.Releasing.{step_goes}
 use Rattle.line.proofs.WrapCalls.{wrap}
+use Rattle.stage.specs.Answers.{Reply}
+use Rattle.stage.specs.declared.Refusal.TheVariants.{Unsound}
+use Rattle.std.specs.Prelude.{Ok, Err}
 
 -- the same of another table, where the stages and Locked that it speaks of are the same
 leaves_as : {t u : Table} {p x : ℕ} {l : List Place} → (u.private p).stage ≡ (t.private p).stage → (u.private x).stage ≡ (t.private x).stage
@@ -82,7 +83,7 @@ moved private p k me' e idle =
 
 module _ (fits : ℕ → Bool) where
   accepted_goes : (c : Call) → Ongoing c → (t : Table) (o : Course) {h : ℕ} → Inv o.given t.private t.shared t.lock o.line h
-      → Unrefused (refusals suc fits c t) → Goes c (Answered (answered suc c t)) t o.line (after suc c t) (accepted c (answered suc c t).event o).line
+      → Unrefused (refusals suc fits c t) → Goes c (Ok (answered suc c t)) t o.line (after suc c t) (accepted c (answered suc c t).event o).line
   unfolding refusals answered after accepted begun_acquisition begun_release log_taken step_in steps_now
   accepted_goes (set_up k) z t o i u = absurd z
   accepted_goes (begin_acquisition p r) z t o i u =
@@ -112,7 +113,7 @@ module _ (fits : ℕ → Bool) where
         let t = ideal cs in
         let o = course (told cs) in
         refused_or (λ (r : Reply × Table). Goes c r.0 t o.line r.1 (heard c r.0 o).line) (refusals suc fits c t) _ _
-        (λ k. quiet c (Refused k) t t o.line (λ _. refl) refl (λ _ _. refl) (λ _. refl))
+        (λ k. quiet c (Err k) t t o.line (λ _. refl) refl (λ _ _. refl) (λ _. refl))
         (accepted_goes c ongoing t o (ideal_kept fits never n cs).inv)
 
 -- counts are not spoken of
@@ -133,7 +134,7 @@ goes_wrap m g =
 
 -- what the latest call said
 abbrev latest : Transcript → Reply
-latest [] = Refused 0
+latest [] = Err Unsound
 latest (x ∷ earlier) = x.1
 
 module _ (m : ℕ) (two : 1 < m) (fits : ℕ → Bool) (n : ℕ) where

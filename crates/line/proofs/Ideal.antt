@@ -14,8 +14,6 @@ use Rattle.stage.specs.Table.{Table, upd, fresh_table, begun_acquisition, begun_
 use Rattle.stage.specs.declared.Event.{Event}
 use Rattle.stage.specs.declared.Event.TheVariants.{Done, Waiting, Admitted, Joined, Left, Finished, Taken, Nobody}
 use Rattle.stage.specs.declared.Private.{Private}
-use Rattle.stage.specs.declared.Reply.{Reply}
-use Rattle.stage.specs.declared.Reply.TheVariants.{Answered}
 use Rattle.stage.specs.declared.Shared.{Shared}
 use Rattle.line.specs.History.{Course, start, stepping, accepted, heard, course, takes, state, table, transcript, taken}
 use Rattle.line.specs.Mixed.{unraised}
@@ -26,6 +24,8 @@ use Rattle.line.proofs.HoldingRows.{release_keeps, unraised_keeps}
 use Rattle.line.proofs.Invariant.{Inv}
 use Rattle.line.proofs.Logs.{Logs, pending, insides, quiet, step_logs}
 use Rattle.line.proofs.Steps.{step_keeps}
+use Rattle.stage.specs.Answers.{Reply}
+use Rattle.std.specs.Prelude.{Ok, Err}
 
 -- the invariant, of a course, what was taken of the log, and a table
 pub record Kept (o : Course) (taken : List ℕ) (t : Table) : Type 0 where
@@ -59,7 +59,7 @@ relog o taken t p k me' e same logs =
 
 module _ (fits : ℕ → Bool) where
   accepted_keeps : (c : Call) (o : Course) (l : List ℕ) (t : Table) → Kept o l t → Unrefused (refusals suc fits c t)
-      → Kept (accepted c (answered suc c t).event o) (takes c (Answered (answered suc c t)) t.log l) (after suc c t)
+      → Kept (accepted c (answered suc c t).event o) (takes c (Ok (answered suc c t)) t.log l) (after suc c t)
   unfolding refusals answered after accepted takes begun_acquisition begun_release step_of after_step log_taken
   accepted_keeps (set_up k) o l t kept u = fresh_kept k
   accepted_keeps (begin_acquisition p r) o l t kept u =

@@ -15,7 +15,6 @@ use Rattle.stage.specs.Calls.{Call, set_up, begin_acquisition, begin_release, st
 use Rattle.stage.specs.Rows.{find, rows, looked, looks_at, stepped}
 use Rattle.stage.specs.Table.{Table, idle, fresh_table, begun_acquisition, begun_release, step_of, after_step, log_taken}
 use Rattle.stage.specs.declared.Private.{Private}
-use Rattle.stage.specs.declared.Reply.{Reply}
 use Rattle.line.specs.Demand3.{InTime, Inside, Premise}
 use Rattle.line.specs.History.{Course, state, table}
 use Rattle.line.specs.LetIn.{LetIn}
@@ -26,6 +25,7 @@ use Rattle.line.proofs.Facts.{seeks_at}
 use Rattle.line.proofs.Ideal.{Kept, ideal_kept}
 use Rattle.line.proofs.Modular.{follows}
 use Rattle.line.proofs.Raised.{Raised, low, raised_at, step_raises, begin_raises, release_raises}
+use Rattle.stage.specs.Answers.{Reply}
 
 fresh_raised : (n : ℕ) → Raised (fresh_table n).private (fresh_table n).shared
 unfolding fresh_table idle

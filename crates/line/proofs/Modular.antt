@@ -19,7 +19,6 @@ use Rattle.stage.proofs.Update.{upd_all}
 use Rattle.stage.specs.Calls.{Call, set_up, begin_acquisition, begin_release, step, take_log, after}
 use Rattle.stage.specs.Rows.{last}
 use Rattle.stage.specs.Table.{Table, idle, fresh_table}
-use Rattle.stage.specs.declared.Reply.{Reply}
 use Rattle.line.specs.Demand3.{changed, reads, changes_since, InTime, Premise, Holds, Demand3}
 use Rattle.line.specs.History.{Desk, Course, Ongoing, course, takes, state, table, transcript, taken}
 use Rattle.line.specs.Mixed.{unraised}
@@ -32,6 +31,7 @@ use Rattle.line.proofs.Invariant.{Read}
 use Rattle.line.proofs.OneFound.{found_wraps}
 use Rattle.line.proofs.Wrap.{wrap_link}
 use Rattle.line.proofs.WrapCalls.{wrap, Fair, fresh_wraps, desk_wraps}
+use Rattle.stage.specs.Answers.{Reply}
 
 module _ (m : ℕ) (two : 1 < m) where
   -- a reduced link tells one change from none

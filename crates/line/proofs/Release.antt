@@ -7,18 +7,17 @@ use mathlib.Core.Logic.{◌⊎◌, ◌≢◌}
 use lib.Dec.{T}
 use lib.ListN.{length}
 use Rattle.laws.proofs.Only.{among}
-use Rattle.stage.specs.Answers.{answer_of}
+use Rattle.stage.specs.Answers.{answer_of, Reply}
 use Rattle.stage.specs.Calls.{Call}
 use Rattle.stage.specs.Table.{Table}
 use Rattle.stage.specs.declared.Event.TheVariants.{Admitted}
-use Rattle.stage.specs.declared.Reply.{Reply}
-use Rattle.stage.specs.declared.Reply.TheVariants.{Answered}
 use Rattle.line.specs.Corollaries.{step_in, steps_now}
 use Rattle.line.specs.Demand3.{Premise}
 use Rattle.line.specs.History.{Desk, Ongoing, course, state, table, transcript}
 use Rattle.line.specs.PlainLine.{Place}
 use Rattle.line.proofs.Invariant.{leavers, waiters}
 use Rattle.line.proofs.Places.{head}
+use Rattle.std.specs.Prelude.{Ok, Err}
 
 -- the stages of those that it needs: about to leave, waiting, leaving
 abbrev pub busy : List ℕ
@@ -53,7 +52,7 @@ pub record Goes (c : Call) (r : Reply) (t : Table) (l : List Place) (t' : Table)
   pub freed_stays : (x : ℕ) → steps_now x (step_in c r) ≡ false → Freed x t → Freed x t'
   pub freed_steps :
       (x : ℕ) → steps_now x (step_in c r) ≡ true → Freed x t
-      → (((t.private x).stage ≡ 11) × Freed x t') ⊎ ((q : ℕ) × (r ≡ Answered (answer_of (Admitted q))))
+      → (((t.private x).stage ≡ 11) × Freed x t') ⊎ ((q : ℕ) × (r ≡ Ok (answer_of (Admitted q))))
   -- a waiter stays at its stage until it steps, and is not at 11 then
   pub waiter_stays : (x : ℕ) → steps_now x (step_in c r) ≡ false → T (among (t.private x).stage waiters) → (t'.private x).stage ≡ (t.private x).stage
   pub waiter_steps : (x : ℕ) → steps_now x (step_in c r) ≡ true → T (among (t.private x).stage waiters) → (t'.private x).stage ≢ 11

@@ -10,8 +10,7 @@ use native.Mathlib.Nat.{le_refl}
 use native.Mathlib.Omega.{arith}
 use Rattle.laws.proofs.Cases.{choose}
 use Rattle.laws.proofs.Only.{among, one_of}
-use Rattle.link.specs.Operations.{same, swapped}
-use Rattle.link.specs.declared.Swapped.{Swapped}
+use Rattle.link.specs.Operations.{same, swapped, Swapped}
 use Rattle.stage.proofs.ByStage.{by_stage}
 use Rattle.stage.specs.Rows.{find, rows, looked, looks_at, stepped, after9, last}
 use Rattle.stage.specs.declared.Private.{Private}

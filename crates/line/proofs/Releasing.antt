@@ -16,7 +16,6 @@ use Rattle.stage.specs.Rows.{find, rows, looked, looks_at, stepped}
 use Rattle.stage.specs.Table.{Table, upd, step_of, after_step}
 use Rattle.stage.specs.declared.Event.TheVariants.{Admitted}
 use Rattle.stage.specs.declared.Private.{Private}
-use Rattle.stage.specs.declared.Reply.TheVariants.{Answered}
 use Rattle.stage.specs.declared.Shared.{Shared}
 use Rattle.stage.specs.declared.Stepped.{Stepped}
 use Rattle.line.specs.Corollaries.{step_in, steps_now}
@@ -29,6 +28,7 @@ use Rattle.line.proofs.Places.{In, head}
 use Rattle.line.proofs.Release.{Begun, Leaves, Freed, Goes}
 use Rattle.line.proofs.ReleaseRows.{among_each, Grows, Mild, mild}
 use Rattle.line.proofs.Steps.{step_keeps}
+use Rattle.std.specs.Prelude.{Ok, Err}
 
 -- of a line of two or more, somebody is left
 some_left : (l : List Place) → 2 ≤ length l → leave l ≢ []
@@ -197,14 +197,14 @@ module _ (t : Table) (o : Course) {h : ℕ} (i : Inv o.given t.private t.shared 
           (λ a. absurd (⊎_elim (λ b. n_q b.0) (λ b. omega (arith, a.0, b.1)) ((i.stands q).waits w_q).1))
           (waiting w_q).1
 
-  entering : Freed q t → ((me.stage ≡ 11) × Freed q t') ⊎ ((p : ℕ) × (Answered r.answer ≡ Answered (answer_of (Admitted p))))
+  entering : Freed q t → ((me.stage ≡ 11) × Freed q t') ⊎ ((p : ℕ) × (Ok r.answer ≡ Ok (answer_of (Admitted p))))
   entering f =
       ⊎_elim
       (λ a. ⊎_elim
       (λ e. inl (e, record { waiter = subst⁻¹ (λ (k : ℕ). T (among k waiters)) here a.1; freed = looked_here q a.0 ∙ a.2 ∙ f.freed }))
       (λ n. absurd (n f.freed))
       a.3)
-      (λ a. inr (q, ap Answered a.1))
+      (λ a. inr (q, ap Ok a.1))
       (waiting f.waiter).1
 
   -- nobody else's step takes back that x is freed
@@ -215,7 +215,7 @@ module _ (t : Table) (o : Course) {h : ℕ} (i : Inv o.given t.private t.shared 
       (λ n z. ⊎_elim (λ a. a) (λ e. absurd (n e)) (mild_here.1 z))
       (λ x _ _ z. z)
 
-  pub step_goes : Goes (step q) (Answered r.answer) t l t' l'
+  pub step_goes : Goes (step q) (Ok r.answer) t l t' l'
   unfolding step_in steps_now after_step
   step_goes =
       record {
@@ -246,7 +246,7 @@ module _ (t : Table) (o : Course) {h : ℕ} (i : Inv o.given t.private t.shared 
             let n : x ≢ q = λ e. eqb-false q x no_x (sym e) in
             record { waiter = waits_other x n f.waiter; freed = still_freed x n f.freed };
         freed_steps = λ x yes_x.
-            subst (λ (z : ℕ). Freed z t → (((t.private z).stage ≡ 11) × Freed z t') ⊎ ((p : ℕ) × (Answered r.answer ≡ Answered (answer_of (Admitted p)))))
+            subst (λ (z : ℕ). Freed z t → (((t.private z).stage ≡ 11) × Freed z t') ⊎ ((p : ℕ) × (Ok r.answer ≡ Ok (answer_of (Admitted p)))))
             (eqb-true q x yes_x) entering;
         waiter_stays = λ x no_x _. others x (eqb-false q x no_x);
         waiter_steps = λ x yes_x.

@@ -20,7 +20,6 @@ use Rattle.stage.specs.Rows.{find, rows, looked, looks_at, stepped, after9}
 use Rattle.stage.specs.Table.{upd}
 use Rattle.stage.specs.declared.Event.TheVariants.{Done, Waiting, Admitted, Joined, Left, Finished, Taken, Nobody}
 use Rattle.stage.specs.declared.Private.{Private}
-use Rattle.stage.specs.declared.Reply.TheVariants.{Answered}
 use Rattle.stage.specs.declared.Shared.{Shared}
 use Rattle.stage.specs.declared.Stepped.{Stepped}
 use Rattle.line.specs.Corollaries as C
@@ -31,6 +30,7 @@ use Rattle.line.proofs.Facts.{stands_at, seeks_at, holder_at, empty, free}
 use Rattle.line.proofs.Invariant.{Inv, outs, holders, leavers}
 use Rattle.line.proofs.Joiners.{Stood, join_stood, leave_stood}
 use Rattle.line.proofs.Places.{In, Sorted, behind}
+use Rattle.std.specs.Prelude.{Ok, Err}
 
 -- of a module q: where it is a release after its leave, how many steps it has taken, and whether it has a successor
 abbrev pub Released : List Place → (ℕ → ℕ) → (ℕ → Bool) → ℕ → Private → Type 0
@@ -161,7 +161,7 @@ module _ (h : Transcript) {private : ℕ → Private} {sh : ℕ → Shared} {loc
 
   pub step_remembers :
       let r = stepped suc p (private p) (sh (looks_at p (private p))) lock in
-      Remembered ((step p, Answered r.answer) ∷ h) (upd private p r.me)
+      Remembered ((step p, Ok r.answer) ∷ h) (upd private p r.me)
   unfolding looks_at stepped find rows swapped
       course heard accepted stepping standing unless_set_up step_in stands own_steps steps_now succeeded leaves_now someone
   step_remembers =
@@ -201,4 +201,4 @@ module _ (h : Transcript) {private : ℕ → Private} {sh : ℕ → Shared} {loc
       me = private p
 
       AfterStep : Stepped → Type 0
-      AfterStep r = Remembered ((step p, Answered r.answer) ∷ h) (upd private p r.me)
+      AfterStep r = Remembered ((step p, Ok r.answer) ∷ h) (upd private p r.me)

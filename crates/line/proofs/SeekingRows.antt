@@ -8,7 +8,6 @@ use native.Mathlib.Omega.{arith}
 use Rattle.laws.proofs.Cases.{choose}
 use Rattle.laws.proofs.Only.{among}
 use Rattle.link.specs.Operations.{CLOSED, changed}
-use Rattle.link.specs.declared.Swapped.TheVariants.{Failed}
 use Rattle.stage.proofs.Update.{upd_kept}
 use Rattle.stage.specs.Rows.{goes, with_prev, with_w, row1, row4, row5, row6, row7, row8, after9, row10, last}
 use Rattle.stage.specs.Table.{upd}
@@ -21,6 +20,7 @@ use Rattle.line.proofs.Facts.{seeks_at}
 use Rattle.line.proofs.Invariant.{Seeks, Inv, outs}
 use Rattle.line.proofs.Kept.{own_calm}
 use Rattle.line.proofs.Seeking.{not_in, seek, look}
+use Rattle.std.specs.Prelude.{Ok, Err}
 
 module _ (o : Course) {private : ℕ → Private} {sh : ℕ → Shared} {lock : ℕ} {h : ℕ} (i : Inv o.given private sh lock o.line h) (p : ℕ) (some : p ≢ 0) where
   -- the stage is k, one of those away from the line
@@ -144,7 +144,7 @@ module _ (o : Course) {private : ℕ → Private} {sh : ℕ → Shared} {lock : 
       (λ less. looked 10 e tt x _ (lit≤ tt) tt (record { given = s.given; nil = absurd; locked = absurd; copied = absurd; knows = absurd }))
       (λ more. looked 10 e tt x _ (lit≤ tt) tt (record { given = s.given; nil = absurd; locked = s.locked; copied = absurd; knows = absurd }))
 
-  pub row9_fails : (private p).stage ≡ 9 → After o private sh p (private p).prev (after9 (private p) (sh (private p).prev) lock (Failed (sh (private p).prev).link))
+  pub row9_fails : (private p).stage ≡ 9 → After o private sh p (private p).prev (after9 (private p) (sh (private p).prev) lock (Err (sh (private p).prev).link))
   unfolding stepping
   row9_fails e =
       let s = seeks_at i p 9 e in

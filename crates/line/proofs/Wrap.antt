@@ -7,10 +7,8 @@ use native.Mathlib.Nat.{mod-add-mod}
 use native.Mathlib.Numerals.{add-one}
 use Rattle.laws.proofs.Cases.{cond_map}
 use Rattle.link.specs.Count.{next}
-use Rattle.link.specs.Operations.{CLOSED, OPEN, changed, same, swapped}
+use Rattle.link.specs.Operations.{CLOSED, OPEN, changed, same, swapped, Swapped}
 use Rattle.link.specs.declared.Link.{Link}
-use Rattle.link.specs.declared.Swapped.{Swapped}
-use Rattle.link.specs.declared.Swapped.TheVariants.{Done, Failed}
 use Rattle.stage.specs.Rows.{leaves, goes, with_w, with_link, find, rows, after9, last}
 use Rattle.stage.specs.declared.Event.{Event}
 use Rattle.stage.specs.declared.Event.TheVariants as event
@@ -18,6 +16,7 @@ use Rattle.stage.specs.declared.Private.{Private}
 use Rattle.stage.specs.declared.Shared.{Shared}
 use Rattle.stage.specs.declared.Stepped.{Stepped}
 use Rattle.stage.proofs.ByStage.{by_stage}
+use Rattle.std.specs.Prelude.{Ok, Err}
 
 module _ (m : ℕ) where
   abbrev pub wrap_link : Link → Link
@@ -39,8 +38,8 @@ module _ (m : ℕ) where
       λ i. record { pointer = to; mark = marked; count = c i }
 
   abbrev wrap_swapped : Swapped → Swapped
-  wrap_swapped (Done l) = Done (wrap_link l)
-  wrap_swapped (Failed l) = Failed (wrap_link l)
+  wrap_swapped (Ok l) = Ok (wrap_link l)
+  wrap_swapped (Err l) = Err (wrap_link l)
 
   module _ (p : ℕ) (me : Private) (its : Shared) (lock : ℕ) where
     -- the row of stage k on reduced parts is the row, reduced
@@ -48,8 +47,8 @@ module _ (m : ℕ) where
     Wraps k = (find rows k).row (next m) p (wrap_private me) (wrap_shared its) lock ≡ wrap_stepped ((find rows k).row suc p me its lock)
 
     after9_wraps : (r : Swapped) → after9 (wrap_private me) (wrap_shared its) lock (wrap_swapped r) ≡ wrap_stepped (after9 me its lock r)
-    after9_wraps (Done l) = refl
-    after9_wraps (Failed l) = refl
+    after9_wraps (Ok l) = refl
+    after9_wraps (Err l) = refl
 
     -- a swap on reduced links compares as the swap does
     abbrev pub Alike : Type 0
@@ -58,8 +57,8 @@ module _ (m : ℕ) where
     swapped_wraps : Alike → swapped (next m) (wrap_link its.link) (wrap_link me.w) p ≡ wrap_swapped (swapped suc its.link me.w p)
     unfolding swapped
     swapped_wraps alike =
-        (λ i. cond (alike i) (Done (changed_wraps its.link p OPEN i)) (Failed (wrap_link its.link)))
-        ∙ sym (cond_map wrap_swapped (same its.link me.w) (Done (changed suc its.link p OPEN)) (Failed its.link))
+        (λ i. cond (alike i) (Ok (changed_wraps its.link p OPEN i)) (Err (wrap_link its.link)))
+        ∙ sym (cond_map wrap_swapped (same its.link me.w) (Ok (changed suc its.link p OPEN)) (Err its.link))
 
     -- the row leaves the link changed
     relinked : (k to marked : ℕ) (e : Event)

@@ -14,12 +14,13 @@ use Rattle.stage.proofs.Update.{upd_map}
 use Rattle.stage.specs.Calls.{Call, set_up, begin_acquisition, begin_release, step, take_log, within, capacity, admits, refusals, refusing, answered, after, called}
 use Rattle.stage.specs.Rows.{find, rows, goes, with_own, with_priority, looked, looks_at, stepped, last, Looks, itself, prev's, w's, s's}
 use Rattle.stage.specs.Table.{Table, upd, idle, untouched, fresh_table, begun_acquisition, begun_release, step_of, logged, after_step, log_taken}
-use Rattle.stage.specs.declared.Reply.{Reply}
-use Rattle.stage.specs.declared.Reply.TheVariants.{Refused, Answered}
 use Rattle.stage.specs.declared.Stepped.{Stepped}
 use Rattle.line.specs.Mixed.{unraised, left_before, sound_before, called_by}
 use Rattle.line.proofs.Desks.{called_table}
 use Rattle.line.proofs.Wrap.{wrap_private, wrap_shared, wrap_stepped, Alike, row_wraps}
+use Rattle.stage.specs.Answers.{Reply}
+use Rattle.stage.specs.declared.Refusal.TheVariants.{Unsound}
+use Rattle.std.specs.Prelude.{Ok, Err}
 
 module _ (m : ℕ) where
   abbrev pub wrap : Table → Table
@@ -123,8 +124,8 @@ module _ (m : ℕ) where
     call_wraps : (c : Call) → Fair c t → called (next m) fits c (wrap t) ≡ ((called suc fits c t).0, wrap (called suc fits c t).1)
     unfolding called
     call_wraps c fair =
-        (λ i. refusing (refusals_wrap c fair i) (λ k. (Refused k, wrap t)) (Answered (answered_wraps c fair i), after_wraps c fair i))
-        ∙ sym (refusing_map (λ (r : Reply × Table). (r.0, wrap r.1)) (refusals suc fits c t) (λ k. (Refused k, t)) (Answered (answered suc c t), after suc c t))
+        (λ i. refusing (refusals_wrap c fair i) (λ k. (Err k, wrap t)) (Ok (answered_wraps c fair i), after_wraps c fair i))
+        ∙ sym (refusing_map (λ (r : Reply × Table). (r.0, wrap r.1)) (refusals suc fits c t) (λ k. (Err k, t)) (Ok (answered suc c t), after suc c t))
 
     unraised_wraps : (p : ℕ) (t' : Table) → unraised p (wrap t') ≡ wrap (unraised p t')
     unfolding unraised
@@ -150,6 +151,6 @@ module _ (m : ℕ) where
     desk_wraps before c fair =
         let e = call_wraps c fair in
         let r = called suc fits c t in
-        (λ i. cond before (cond (sound_before c t) ((e i).0, left_before c (wrap t) (e i).1) (Refused 1, wrap t)) (e i))
-        ∙ (λ i. cond before (cond (sound_before c t) (r.0, left_wraps c r.1 i) (Refused 1, wrap t)) (wrapped r))
-        ∙ sym (cond_map₂ wrapped before (sound_before c t) (r.0, left_before c t r.1) (Refused 1, t) r)
+        (λ i. cond before (cond (sound_before c t) ((e i).0, left_before c (wrap t) (e i).1) (Err Unsound, wrap t)) (e i))
+        ∙ (λ i. cond before (cond (sound_before c t) (r.0, left_wraps c r.1 i) (Err Unsound, wrap t)) (wrapped r))
+        ∙ sym (cond_map₂ wrapped before (sound_before c t) (r.0, left_before c t r.1) (Err Unsound, t) r)

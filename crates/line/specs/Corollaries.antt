@@ -1,12 +1,10 @@
 -- What users rely on besides demand 3, of a moment of a history: of what was heard of it and of the table.
-use Rattle.std.specs.Prelude.{ℕ, ◌+◌, ◌≤◌, ◌≡◌, Bool, true, false, cond, List, [], ◌∷◌, ◌++◌, ◌⊎◌, eqb}
-use Rattle.stage.specs.Answers.{answer_of}
+use Rattle.std.specs.Prelude.{ℕ, ◌+◌, ◌≤◌, ◌≡◌, Bool, true, false, cond, List, [], ◌∷◌, ◌++◌, ◌⊎◌, eqb, Ok, Err}
+use Rattle.stage.specs.Answers.{answer_of, Reply}
 use Rattle.stage.specs.Calls.{Call, set_up, begin_acquisition, begin_release, step, take_log}
 use Rattle.stage.specs.Table.{Table}
 use Rattle.stage.specs.declared.Event.{Event}
 use Rattle.stage.specs.declared.Event.TheVariants.{Done, Waiting, Admitted, Joined, Left, Finished, Taken, Nobody}
-use Rattle.stage.specs.declared.Reply.{Reply}
-use Rattle.stage.specs.declared.Reply.TheVariants.{Refused, Answered}
 use Rattle.line.specs.Demand3.{Premise, Found}
 use Rattle.line.specs.History.{Desk, Transcript, course, table, transcript}
 use Rattle.line.specs.PlainLine.{Place, modules}
@@ -37,12 +35,12 @@ pub data Step : Type 0 where
   other : Step
 
 unfoldable pub step_in : Call → Reply → Step
-step_in c (Refused k) = other
-step_in (set_up k) (Answered a) = other
-step_in (begin_acquisition p r) (Answered a) = other
-step_in (begin_release p) (Answered a) = other
-step_in (step p) (Answered a) = stepped p a.event
-step_in (take_log room) (Answered a) = other
+step_in c (Err k) = other
+step_in (set_up k) (Ok a) = other
+step_in (begin_acquisition p r) (Ok a) = other
+step_in (begin_release p) (Ok a) = other
+step_in (step p) (Ok a) = stepped p a.event
+step_in (take_log room) (Ok a) = other
 
 -- Who has joined and not left, in the order of joining; nobody after a new set-up.
 unfoldable pub stands : Step → List ℕ → List ℕ
@@ -57,12 +55,12 @@ stands (stepped p (Taken k)) l = l
 stands (stepped p Nobody) l = l
 
 unfoldable pub unless_set_up : {A : Type 0} → Call → Reply → A → A → A
-unless_set_up c (Refused k) fresh ongoing = ongoing
-unless_set_up (set_up k) (Answered a) fresh ongoing = fresh
-unless_set_up (begin_acquisition p r) (Answered a) fresh ongoing = ongoing
-unless_set_up (begin_release p) (Answered a) fresh ongoing = ongoing
-unless_set_up (step p) (Answered a) fresh ongoing = ongoing
-unless_set_up (take_log room) (Answered a) fresh ongoing = ongoing
+unless_set_up c (Err k) fresh ongoing = ongoing
+unless_set_up (set_up k) (Ok a) fresh ongoing = fresh
+unless_set_up (begin_acquisition p r) (Ok a) fresh ongoing = ongoing
+unless_set_up (begin_release p) (Ok a) fresh ongoing = ongoing
+unless_set_up (step p) (Ok a) fresh ongoing = ongoing
+unless_set_up (take_log room) (Ok a) fresh ongoing = ongoing
 
 unfoldable pub standing : Transcript → List ℕ
 standing [] = []
@@ -110,7 +108,7 @@ pub record Corollaries (h : Transcript) (t : Table) : Type 0 where
   pub no_other : (l : List ℕ) → Found t l → (p : ℕ) → OneOf p l → OneOf p (standing h)
   -- whoever becomes first by a leave is the most urgent of those that waited then
   pub most_urgent :
-      (earlier : Transcript) (p : ℕ) → h ≡ (step p, Answered (answer_of Left)) ∷ earlier
+      (earlier : Transcript) (p : ℕ) → h ≡ (step p, Ok (answer_of Left)) ∷ earlier
       → (first : Place) (others : List Place) → (course h).line ≡ first ∷ others
       → (x : Place) → InLine x others → x.priority ≤ first.priority
   -- equals stand in the order of joining; the log names the firsts, so they are admitted in it
@@ -119,7 +117,7 @@ pub record Corollaries (h : Transcript) (t : Table) : Type 0 where
       → Ahead x.module y.module (standing h) → Ahead x.module y.module (modules (course h).line)
   -- "A release takes 3 own steps with no successor and 5 with one, however other modules' steps fall between"
   pub release_steps :
-      (earlier : Transcript) (p : ℕ) → h ≡ (step p, Answered (answer_of Finished)) ∷ earlier
+      (earlier : Transcript) (p : ℕ) → h ≡ (step p, Ok (answer_of Finished)) ∷ earlier
       → own_steps p h ≡ cond (succeeded p earlier) 5 3
 
 -- so it is in every history under demand 3's premise

@@ -1,12 +1,11 @@
 -- A history of calls on a desk, and what somebody who hears each call and its answer makes of it.
-use Rattle.std.specs.Prelude.{ℕ, List, [], ◌∷◌, ◌++◌}
+use Rattle.std.specs.Prelude.{ℕ, List, [], ◌∷◌, ◌++◌, Ok, Err}
 use Rattle.stage.specs.Calls.{Call, set_up, begin_acquisition, begin_release, step, take_log}
 use Rattle.stage.specs.Table.{Table, upd}
 use Rattle.stage.specs.declared.Event.{Event}
 use Rattle.stage.specs.declared.Event.TheVariants.{Done, Waiting, Admitted, Joined, Left, Finished, Taken, Nobody}
-use Rattle.stage.specs.declared.Reply.{Reply}
-use Rattle.stage.specs.declared.Reply.TheVariants.{Refused, Answered}
 use Rattle.line.specs.PlainLine.{Place, join, leave, first_of}
+use Rattle.stage.specs.Answers.{Reply}
 
 -- A desk: what a call says, what it leaves, and the table that a state shows. The machine is one, whose state is the table itself; so is an image.
 pub record Desk : Type 1 where
@@ -68,8 +67,8 @@ accepted (take_log room) e o = o
 
 -- a refused call changes nothing
 unfoldable pub heard : Call → Reply → Course → Course
-heard c (Refused k) o = o
-heard c (Answered a) o = accepted c a.event o
+heard c (Err k) o = o
+heard c (Ok a) o = accepted c a.event o
 
 unfoldable pub course : Transcript → Course
 course [] = start
@@ -77,12 +76,12 @@ course (x ∷ earlier) = heard x.0 x.1 (course earlier)
 
 -- "all that was ever taken" of the log, one call on, where `held` was held
 unfoldable pub takes : Call → Reply → List ℕ → List ℕ → List ℕ
-takes c (Refused k) held taken = taken
-takes (set_up k) (Answered a) held taken = []
-takes (begin_acquisition p r) (Answered a) held taken = taken
-takes (begin_release p) (Answered a) held taken = taken
-takes (step p) (Answered a) held taken = taken
-takes (take_log room) (Answered a) held taken = taken ++ held
+takes c (Err k) held taken = taken
+takes (set_up k) (Ok a) held taken = []
+takes (begin_acquisition p r) (Ok a) held taken = taken
+takes (begin_release p) (Ok a) held taken = taken
+takes (step p) (Ok a) held taken = taken
+takes (take_log room) (Ok a) held taken = taken ++ held
 
 -- A history is a list of calls, the latest first. After it, from the state s on the desk D:
 module _ (D : Desk) (s : D.State) where

@@ -1,12 +1,12 @@
 -- Desks of before R-1 (document 02) and of today, at work on the same table or image.
-use Rattle.std.specs.Prelude.{ℕ, suc, Bool, cond, not, ◌&&◌, ◌||◌, eqb, leb}
+use Rattle.std.specs.Prelude.{ℕ, suc, Bool, cond, not, ◌&&◌, ◌||◌, eqb, leb, Ok, Err}
 use Rattle.stage.specs.Calls.{Call, set_up, begin_acquisition, begin_release, step, take_log, asks_sound}
 use Rattle.stage.specs.Rows.{goes}
 use Rattle.stage.specs.Sound.{every}
 use Rattle.stage.specs.Table.{Table, upd}
-use Rattle.stage.specs.declared.Reply.{Reply}
-use Rattle.stage.specs.declared.Reply.TheVariants.{Refused}
 use Rattle.line.specs.History.{Desk}
+use Rattle.stage.specs.Answers.{Reply}
+use Rattle.stage.specs.declared.Refusal.TheVariants.{Unsound}
 
 -- A desk of before R-1. It goes from a success at stage 2 to stage 3: where today p goes to 19, it is at 3 at once, and its record is not raised.
 unfoldable pub unraised : ℕ → Table → Table
@@ -30,7 +30,7 @@ called_by before D write c s =
     cond before
     (cond (sound_before c (D.shows s))
     (D.says c s, write (left_before c (D.shows s) (D.shows (D.leaves c s))) (D.leaves c s))
-    (Refused 1, s))
+    (Err Unsound, s))
     (D.says c s, D.leaves c s)
 
 -- Desks of both kinds on one state: `before k` says whether the call after k others is made by one of before R-1.

@@ -6,10 +6,10 @@ use native.Mathlib.Omega.{arith}
 use borrow.Author.Tests.{lt-ltb, le-ltb}
 use lib.Dec.{ltb}
 use lib.ListN.{length, length-append}
-use Rattle.stage.specs.declared.Reply.{Reply}
-use Rattle.stage.specs.declared.Reply.TheVariants.{Refused, Answered}
 use Rattle.laws.proofs.Cases.{choose}
 use Rattle.lines.specs.Text.{decimal, line_text, reply_text, lock_text}
+use Rattle.stage.specs.Answers.{Reply}
+use Rattle.std.specs.Prelude.{Ok, Err}
 
 module _ (x : ℕ) where
   pub one_digit : x < 10 → decimal x ≡ (48 + x) ∷ []
@@ -36,8 +36,8 @@ line_length word rest = length-append (word ++ rest) (10 ∷ []) ∙ ap (λ (k :
 
 pub reply_short : (r : Reply) → length (reply_text r) ≤ 6
 unfolding reply_text
-reply_short (Refused k) = omega (arith, decimal_short k, line_length (120 ∷ 32 ∷ []) (decimal k))
-reply_short (Answered a) = omega (arith, decimal_short a.number, line_length [] (decimal a.number))
+reply_short (Err k) = omega (arith, decimal_short k, line_length (120 ∷ 32 ∷ []) (decimal k))
+reply_short (Ok a) = omega (arith, decimal_short a.number, line_length [] (decimal a.number))
 
 pub lock_short : (k : ℕ) → length (lock_text k) ≤ 9
 unfolding lock_text

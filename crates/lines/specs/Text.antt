@@ -1,8 +1,7 @@
 -- What is written. Document 01, "The program `turns`": "Each command prints its answer number, or `x` and a space and the refusal. At the end of input come
 -- `lock` with the lock word and `log` with the held entries, blank-parted; an empty log prints `log` alone".
-use Rattle.std.specs.Prelude.{ℕ, ◌+◌, ◌/◌, ◌%◌, ◌≡◌, Bool, cond, List, [], ◌∷◌, ◌++◌, leb, ltb, length, take, drop}
-use Rattle.stage.specs.declared.Reply.{Reply}
-use Rattle.stage.specs.declared.Reply.TheVariants.{Refused, Answered}
+use Rattle.std.specs.Prelude.{ℕ, ◌+◌, ◌/◌, ◌%◌, ◌≡◌, Bool, cond, List, [], ◌∷◌, ◌++◌, leb, ltb, length, take, drop, Ok, Err}
+use Rattle.stage.specs.Answers.{Reply}
 
 -- a number below 1000 in decimal
 unfoldable pub decimal : ℕ → List ℕ
@@ -17,8 +16,8 @@ line_text word rest = word ++ rest ++ 10 ∷ []
 
 -- 120 and 32 are `x` and a space
 unfoldable pub reply_text : Reply → List ℕ
-reply_text (Refused k) = line_text (120 ∷ 32 ∷ []) (decimal k)
-reply_text (Answered a) = line_text [] (decimal a.number)
+reply_text (Err k) = line_text (120 ∷ 32 ∷ []) (decimal k)
+reply_text (Ok a) = line_text [] (decimal a.number)
 
 -- "lock", a space and the lock word
 unfoldable pub lock_text : ℕ → List ℕ

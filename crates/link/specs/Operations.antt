@@ -1,9 +1,7 @@
 -- The link after each of the four operations. Document 01, "What the desk does": a link has a pointer, a mark and a change count.
 -- `bump` is how a count changes: `next size` in the desk, `suc` in the machine whose counts never wrap.
-use Rattle.std.specs.Prelude.{ℕ, Bool, cond, ◌&&◌, ◌==◌}
+use Rattle.std.specs.Prelude.{ℕ, Bool, cond, ◌&&◌, ◌==◌, Result, Ok, Err}
 use Rattle.link.specs.declared.Link.{Link}
-use Rattle.link.specs.declared.Swapped.{Swapped}
-use Rattle.link.specs.declared.Swapped.TheVariants.{Done, Failed}
 
 -- the two marks, as the image has them: "link mark (1 closed)"
 abbrev pub OPEN : ℕ
@@ -33,8 +31,11 @@ closed bump l = changed bump l l.pointer CLOSED
 unfoldable pub same : Link → Link → Bool
 same l expected = l.pointer == expected.pointer && l.mark == expected.mark && l.count == expected.count
 
+-- what a swap says: `Ok` has the link as it is now, `Err` the link found
+abbrev pub Swapped : Type 0
+Swapped = Result Link Link
+
 -- "If equal, the pointer becomes the new one, the mark open, the count goes up by 1. If not, nothing changes and the link found is handed back."
--- `Done` holds the link as it is now, `Failed` the link found.
 unfoldable pub swapped : (ℕ → ℕ) → Link → Link → ℕ → Swapped
 swapped bump l expected to =
-    cond (same l expected) (Done (changed bump l to OPEN)) (Failed l)
+    cond (same l expected) (Ok (changed bump l to OPEN)) (Err l)

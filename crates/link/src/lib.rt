@@ -14,46 +14,11 @@ pub const OPEN: u8 = 0;
 
 pub const CLOSED: u8 = 1;
 
-#[derive(Clone, Copy)]
+#[derive(Clone, Copy, Debug, PartialEq, Eq)]
 pub struct Link {
     pub pointer: u8,
     pub mark: u8,
     pub count: u16,
-}
-
-// What a swap did.
-#[derive(Clone, Copy)]
-pub enum Swapped {
-    // It found what it expected: the link as it is now.
-    Done(Link),
-    // It found something else, and changed nothing: the link found.
-    Failed(Link),
-}
-
-// The link with another pointer and mark, and its count one further: after 65,535 comes 0.
-#[tactic(auto, unfolding(crate::specs::Operations::changed))]
-fn changed(l: Link, to: u8, marked: u8) -> Link
-    ensures { result ≡ Operations.changed (next size) l to marked }
-{
-    Link {
-        pointer: to,
-        mark: marked,
-        count: std::num::wrapping_add_u16(l.count, 1),
-    }
-}
-
-// Whether all three parts are equal.
-#[tactic(auto, unfolding(crate::specs::Operations::same))]
-fn same(l: Link, expected: Link) -> bool
-    ensures { result ≡ Operations.same l expected }
-{
-    if l.pointer != expected.pointer {
-        return false;
-    }
-    if l.mark != expected.mark {
-        return false;
-    }
-    l.count == expected.count
 }
 
 impl Link {
@@ -64,36 +29,48 @@ impl Link {
         count: 0,
     };
 
+    // The link with another pointer and mark, and its count one further: after 65,535 comes 0.
+    #[tactic(auto, unfolding(crate::specs::Operations::changed))]
+    fn changed(self, to: u8, mark: u8) -> Link
+        ensures { result ≡ Operations.changed (next size) self to mark }
+    {
+        Link {
+            pointer: to,
+            mark,
+            count: self.count.wrapping_add(1),
+        }
+    }
+
     // The pointer becomes `to`; the mark stays.
     pub fn point(self, to: u8) -> Link
         ensures { result ≡ pointed (next size) self to }
     {
-        changed(self, to, self.mark)
+        self.changed(to, self.mark)
     }
 
     // The mark becomes open; the pointer stays.
     pub fn open(self) -> Link
         ensures { result ≡ opened (next size) self }
     {
-        changed(self, self.pointer, OPEN)
+        self.changed(self.pointer, OPEN)
     }
 
     // The mark becomes closed; the pointer stays.
     pub fn close(self) -> Link
         ensures { result ≡ closed (next size) self }
     {
-        changed(self, self.pointer, CLOSED)
+        self.changed(self.pointer, CLOSED)
     }
 
-    // Where all three parts are those of `expected`, the pointer becomes `to` and the mark open. Otherwise nothing changes.
-    #[tactic(auto, unfolding(crate::specs::Operations::swapped))]
-    pub fn swap(self, expected: Link, to: u8) -> Swapped
+    // Where all three parts are those of `expected`, the pointer becomes `to` and the mark open: the link as it is now. Otherwise nothing
+    // changes: the link found.
+    #[tactic(auto, unfolding(crate::specs::Operations::same, crate::specs::Operations::swapped))]
+    pub fn swap(self, expected: Link, to: u8) -> Result<Link, Link>
         ensures { result ≡ swapped (next size) self expected to }
     {
-        let now = changed(self, to, OPEN);
-        if !same(self, expected) {
-            return Swapped::Failed(self);
+        if self != expected {
+            return Err(self);
         }
-        Swapped::Done(now)
+        Ok(self.changed(to, OPEN))
     }
 }

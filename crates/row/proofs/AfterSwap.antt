@@ -3,8 +3,7 @@ use Prim.Native.Nat.{ℕ}
 use mathlib.Core.Path.{◌≡◌, refl, sym, ◌∙◌, ap}
 use mathlib.Core.Bool.{Bool, true, false, cond, false≢true}
 use lib.Dec.{eqb}
-use Rattle.link.specs.Operations.{CLOSED, swapped}
-use Rattle.link.specs.declared.Swapped.{Swapped}
+use Rattle.link.specs.Operations.{CLOSED, swapped, Swapped}
 use Rattle.stage.specs.Answers.{answer_of}
 use Rattle.stage.specs.Rows.{goes, with_w, leaves, after9, find, rows, stepped}
 use Rattle.stage.specs.declared.Event.TheVariants.{Done, Joined}

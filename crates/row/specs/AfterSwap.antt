@@ -1,8 +1,7 @@
 -- What follows a swap at stage 9, whoever holds the links: row 9 of the table goes to the stage, and gives the answer, that `After` has.
 -- Whether the swap was done, and the mark of the link found where it failed, decide that.
-use Rattle.std.specs.Prelude.{ℕ, ◌≡◌, Bool, true, false}
+use Rattle.std.specs.Prelude.{ℕ, ◌≡◌, Bool, true, false, Ok, Err}
 use Rattle.link.specs.declared.Link.{Link}
-use Rattle.link.specs.declared.Swapped.TheVariants as swap
 use Rattle.stage.specs.Rows.{goes, with_w, with_link, after9}
 use Rattle.stage.specs.declared.Private.{Private}
 use Rattle.stage.specs.declared.Shared.{Shared}
@@ -11,7 +10,7 @@ use Rattle.row.specs.declared.After.{After}
 abbrev pub Follows : Bool → ℕ → After → Type 0
 Follows true mark a =
     (me : Private) (its : Shared) (lock : ℕ) (l : Link)
-    → after9 me its lock (swap.Done l) ≡ record { me = goes a.stage me; its = with_link l its; lock = lock; answer = a.answer }
+    → after9 me its lock (Ok l) ≡ record { me = goes a.stage me; its = with_link l its; lock = lock; answer = a.answer }
 Follows false mark a =
     (me : Private) (its : Shared) (lock : ℕ) (found : Link) → found.mark ≡ mark
-    → after9 me its lock (swap.Failed found) ≡ record { me = goes a.stage (with_w found me); its = its; lock = lock; answer = a.answer }
+    → after9 me its lock (Err found) ≡ record { me = goes a.stage (with_w found me); its = its; lock = lock; answer = a.answer }

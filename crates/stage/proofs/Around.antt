@@ -5,13 +5,13 @@ use mathlib.Core.Path.{◌≡◌, refl, sym, ◌∙◌, ap, subst}
 use mathlib.Core.Bool.{Bool, true, false, cond, true≢false}
 use mathlib.Core.List.{List, [], ◌++◌, append-nil}
 use mathlib.Core.Logic.{◌⊎◌, inl, inr, ⊎_elim, ◌≢◌}
-use mathlib.Core.Option.{Option, none, some}
 use lib.Dec.{ltb}
 use borrow.Author.Tests.{ltb-true, ltb-false}
 use native.Mathlib.Nat.{eq-or-lt_of_le}
 use native.Mathlib.Omega.{arith}
 use Rattle.laws.proofs.Cases.{choose, below, equal}
 use Rattle.stage.specs.Turns.{from, around, first_that}
+use Rattle.std.specs.Prelude.{Option, None, Some}
 
 -- how many of n modules are asked before p, after the marker m
 unfoldable pub ahead : ℕ → ℕ → ℕ → ℕ
@@ -57,17 +57,17 @@ nearer n m q p a b c low high high_p other (inr x) (inr y) (inr z) less = omega 
 
 module _ (f : ℕ → Bool) where
   -- none of a to b passes, but for b itself
-  abbrev None : ℕ → ℕ → Type 0
-  None a b = (i : ℕ) → a ≤ i → i < b → f i ≡ false
+  abbrev NonePass : ℕ → ℕ → Type 0
+  NonePass a b = (i : ℕ) → a ≤ i → i < b → f i ≡ false
 
-  one_more : (a b : ℕ) → f a ≡ false → None (suc a) b → None a b
+  one_more : (a b : ℕ) → f a ≡ false → NonePass (suc a) b → NonePass a b
   one_more a b e others i low less = ⊎_elim (λ (z : a ≡ i). ap f (sym z) ∙ e) (λ on. others i on less) (eq-or-lt_of_le low)
 
   -- the first of k numbers from a on, or of those after them
   first_from :
       (P : Option ℕ → Type 0) (a k : ℕ) (after : List ℕ)
-      → ((q : ℕ) → a ≤ q → q < a + k → f q ≡ true → None a q → P (some q))
-      → (None a (a + k) → P (first_that f after))
+      → ((q : ℕ) → a ≤ q → q < a + k → f q ≡ true → NonePass a q → P (Some q))
+      → (NonePass a (a + k) → P (first_that f after))
       → P (first_that f (from a k ++ after))
   unfolding from first_that
   first_from P a zero after one others = others (λ i low less. absurd (omega arith))
@@ -83,8 +83,8 @@ module _ (f : ℕ → Bool) where
     -- what holds of each module that passes, where none that is asked before it does, and of nobody, where none passes, holds of what is found
     pub first_around :
         (P : Option ℕ → Type 0)
-        → ((q : ℕ) → 1 ≤ q → q ≤ n → f q ≡ true → ((i : ℕ) → 1 ≤ i → i ≤ n → ahead n m i < ahead n m q → f i ≡ false) → P (some q))
-        → (((i : ℕ) → 1 ≤ i → i ≤ n → f i ≡ false) → P none)
+        → ((q : ℕ) → 1 ≤ q → q ≤ n → f q ≡ true → ((i : ℕ) → 1 ≤ i → i ≤ n → ahead n m i < ahead n m q → f i ≡ false) → P (Some q))
+        → (((i : ℕ) → 1 ≤ i → i ≤ n → f i ≡ false) → P None)
         → P (first_that f (around n m))
     unfolding around first_that
     first_around P one nobody =
@@ -104,18 +104,18 @@ module _ (f : ℕ → Bool) where
         (nearer_round n m i q (ahead n m i) (ahead n m q) (omega arith) (ahead_is n m i high low_i) (ahead_is n m q high low) before)))
         (λ none_m. nobody (λ i low high_i. ⊎_elim (λ on. none_after i on (omega arith)) (λ less. none_m i low (omega arith)) (below m i)))))
 
-    pub first_known : (q : ℕ) → first_that f (around n m) ≡ some q → (1 ≤ q) × (q ≤ n) × (f q ≡ true)
+    pub first_known : (q : ℕ) → first_that f (around n m) ≡ Some q → (1 ≤ q) × (q ≤ n) × (f q ≡ true)
     first_known q =
-        first_around (λ o. o ≡ some q → (1 ≤ q) × (q ≤ n) × (f q ≡ true))
+        first_around (λ o. o ≡ Some q → (1 ≤ q) × (q ≤ n) × (f q ≡ true))
         (λ r low high_r t before e.
         let same : r ≡ q = cc in subst (λ (x : ℕ). (1 ≤ x) × (x ≤ n) × (f x ≡ true)) same (low, high_r, t))
         (λ all e. absurd (let z : ◌≡◌ {A = ℕ} 0 1 = cc in omega arith))
 
     pub first_closer :
         (p : ℕ) → 1 ≤ p → p ≤ n → f p ≡ true
-        → (q : ℕ) × (first_that f (around n m) ≡ some q) × ((q ≡ p) ⊎ (ahead n q p < ahead n m p))
+        → (q : ℕ) × (first_that f (around n m) ≡ Some q) × ((q ≡ p) ⊎ (ahead n q p < ahead n m p))
     first_closer p low_p high_p t_p =
-        first_around (λ o. (q : ℕ) × (o ≡ some q) × ((q ≡ p) ⊎ (ahead n q p < ahead n m p)))
+        first_around (λ o. (q : ℕ) × (o ≡ Some q) × ((q ≡ p) ⊎ (ahead n q p < ahead n m p)))
         (λ q low high_q t before. (
           q,
           refl,

@@ -3,8 +3,7 @@ use Prim.Native.Nat.{ℕ, ◌≤◌}
 use mathlib.Core.Path.{◌≡◌, refl}
 use lib.Dec.{eqb, ltb}
 use Rattle.laws.proofs.Cases.{choose}
-use Rattle.link.specs.Operations.{same, swapped}
-use Rattle.link.specs.declared.Swapped.{Swapped}
+use Rattle.link.specs.Operations.{same, swapped, Swapped}
 use Rattle.stage.specs.Answers.{answer_of}
 use Rattle.stage.specs.Rows.{leaves, find, rows, stepped, after9, last}
 use Rattle.stage.specs.declared.Event.{Event}

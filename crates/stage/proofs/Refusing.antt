@@ -7,14 +7,15 @@ use borrow.Author.Tests.{leb-true, not-false}
 use lib.Dec.{leb}
 use Rattle.laws.proofs.Cases.{choose, both_hold, cond_map}
 use Rattle.stage.specs.Calls.{refusing, within}
+use Rattle.stage.specs.declared.Refusal.{Refusal}
 
-abbrev pub Unrefused : List (Bool × ℕ) → Type 0
+abbrev pub Unrefused : List (Bool × Refusal) → Type 0
 Unrefused [] = Unit {0}
 Unrefused (e ∷ others) = (e.0 ≡ false) × Unrefused others
 
 pub refused_or :
-    {A : Type 0} (P : A → Type 0) (tests : List (Bool × ℕ)) (refused : ℕ → A) (accepted : A)
-    → ((k : ℕ) → P (refused k)) → (Unrefused tests → P accepted) → P (refusing tests refused accepted)
+    {A : Type 0} (P : A → Type 0) (tests : List (Bool × Refusal)) (refused : Refusal → A) (accepted : A)
+    → ((k : Refusal) → P (refused k)) → (Unrefused tests → P accepted) → P (refusing tests refused accepted)
 unfolding refusing
 refused_or P [] refused accepted no_k yes_k = yes_k tt
 refused_or P (e ∷ others) refused accepted no_k yes_k =
@@ -27,7 +28,7 @@ is_within a b x e =
     (leb-true a x f.0, leb-true x b f.1)
 
 -- f of what a call comes to
-pub refusing_map : {A B : Type 0} (f : A → B) (tests : List (Bool × ℕ)) (refused : ℕ → A) (accepted : A)
+pub refusing_map : {A B : Type 0} (f : A → B) (tests : List (Bool × Refusal)) (refused : Refusal → A) (accepted : A)
     → f (refusing tests refused accepted) ≡ refusing tests (λ k. f (refused k)) (f accepted)
 unfolding refusing
 refusing_map f [] refused accepted = refl

@@ -21,8 +21,8 @@ use Rattle.stage.specs.Table.{Table, idle, untouched, fresh_table, begun_acquisi
 use Rattle.stage.specs.declared.Event.{Event}
 use Rattle.stage.specs.declared.Event.TheVariants.{Done, Waiting, Admitted, Joined, Left, Finished, Taken, Nobody}
 use Rattle.stage.specs.declared.Private.{Private}
-use Rattle.stage.specs.declared.Reply.{Reply}
 use Rattle.link.specs.Operations.{fresh}
+use Rattle.stage.specs.Answers.{Reply}
 
 -- the rules on a table, as facts
 pub record Soundly (t : Table) : Type 0 where

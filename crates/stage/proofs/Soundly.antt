@@ -6,8 +6,7 @@ use lib.Dec.{eqb, ltb, leb}
 use borrow.Author.Tests.{eqb-true, eqb-false, leb-true, eq-eqb, ne_eqb, le-leb}
 use native.Mathlib.Omega.{arith}
 use Rattle.laws.proofs.Cases.{choose, both_hold, both_are}
-use Rattle.link.specs.Operations.{CLOSED, same, changed, swapped}
-use Rattle.link.specs.declared.Swapped.{Swapped}
+use Rattle.link.specs.Operations.{CLOSED, same, changed, swapped, Swapped}
 use Rattle.stage.specs.Calls.{within}
 use Rattle.stage.specs.Rows.{leaves, goes, with_w, stepped, find, rows, after9, last}
 use Rattle.stage.specs.Sound.{at, sound_link, sound_own, sound_stage, sound_private, sound_shared}

@@ -1,12 +1,12 @@
 -- The five calls, what each is refused for, and what an accepted one says and does. Document 01, "What a call says".
-use Rattle.std.specs.Prelude.{ℕ, Bool, true, false, cond, not, ◌&&◌, ◌||◌, List, [], ◌∷◌, eqb, leb, ltb, length}
-use Rattle.stage.specs.Answers.{answer_of}
+use Rattle.std.specs.Prelude.{ℕ, Bool, true, false, cond, not, ◌&&◌, ◌||◌, List, [], ◌∷◌, eqb, leb, ltb, length, Ok, Err}
+use Rattle.stage.specs.Answers.{answer_of, Reply}
 use Rattle.stage.specs.Table.{Table, fresh_table, begun_acquisition, begun_release, step_of, after_step, log_taken}
 use Rattle.stage.specs.declared.Answer.{Answer}
-use Rattle.stage.specs.declared.Reply.{Reply}
-use Rattle.stage.specs.declared.Reply.TheVariants.{Refused, Answered}
 use Rattle.stage.specs.declared.Event.{Event}
 use Rattle.stage.specs.declared.Event.TheVariants.{Done, Waiting, Admitted, Joined, Left, Finished, Taken, Nobody}
+use Rattle.stage.specs.declared.Refusal.{Refusal}
+use Rattle.stage.specs.declared.Refusal.TheVariants.{NoSuchModule, PriorityOutOfRange, WrongStage, LogFull, LogBufferTooShort, ModulesOutOfRange, BufferTooShort}
 
 -- A call with its numbers, whatever they are. `take_log room` is lent a buffer of `room` bytes for the log.
 pub data Call : Type 0 where
@@ -46,25 +46,26 @@ admits Nobody = false
 abbrev pub rests : Table → ℕ → Bool
 rests t p = eqb (t.private p).stage 0 || eqb (t.private p).stage 13
 
--- what a call is refused for, in the order of the numbers: a test and the number that is given where it holds. `fits k` says whether the
--- buffer has room for k modules. (Number 1, an unsound image, is the image's to give, and comes before these.)
-unfoldable pub refusals : (ℕ → ℕ) → (ℕ → Bool) → Call → Table → List (Bool × ℕ)
-refusals bump fits (set_up k) t = (not (within 1 64 k), 7) ∷ (not (fits k), 8) ∷ []
+-- What a call is refused for, in the order of the numbers: a test and the refusal that is given where it holds. `fits k` says whether the
+-- buffer has room for k modules. (The first, an unsound image, is the image's to give, and comes before these.)
+unfoldable pub refusals : (ℕ → ℕ) → (ℕ → Bool) → Call → Table → List (Bool × Refusal)
+refusals bump fits (set_up k) t = (not (within 1 64 k), ModulesOutOfRange) ∷ (not (fits k), BufferTooShort) ∷ []
 refusals bump fits (begin_acquisition p r) t =
-    (not (within 1 t.n p), 2)
-    ∷ (not (within 1 254 r), 3)
-    ∷ (not (eqb (t.private p).stage 0), 4)
+    (not (within 1 t.n p), NoSuchModule)
+    ∷ (not (within 1 254 r), PriorityOutOfRange)
+    ∷ (not (eqb (t.private p).stage 0), WrongStage)
     ∷ []
-refusals bump fits (begin_release p) t = (not (within 1 t.n p), 2) ∷ (not (eqb (t.private p).stage 13), 4) ∷ []
+refusals bump fits (begin_release p) t =
+    (not (within 1 t.n p), NoSuchModule) ∷ (not (eqb (t.private p).stage 13), WrongStage) ∷ []
 refusals bump fits (step p) t =
-    (not (within 1 t.n p), 2)
-    ∷ (rests t p, 4)
-    ∷ (admits (step_of bump t p).answer.event && leb capacity (length t.log), 5)
+    (not (within 1 t.n p), NoSuchModule)
+    ∷ (rests t p, WrongStage)
+    ∷ (admits (step_of bump t p).answer.event && leb capacity (length t.log), LogFull)
     ∷ []
-refusals bump fits (take_log room) t = (ltb room (length t.log), 6) ∷ []
+refusals bump fits (take_log room) t = (ltb room (length t.log), LogBufferTooShort) ∷ []
 
 -- "The lowest number that applies is given."
-unfoldable pub refusing : {A : Type 0} → List (Bool × ℕ) → (ℕ → A) → A → A
+unfoldable pub refusing : {A : Type 0} → List (Bool × Refusal) → (Refusal → A) → A → A
 refusing [] refused accepted = accepted
 refusing (e ∷ others) refused accepted = cond e.0 (refused e.1) (refusing others refused accepted)
 
@@ -85,4 +86,4 @@ after bump (take_log room) t = log_taken t
 
 -- the call on the machine: what it says, and the table that it leaves
 unfoldable pub called : (ℕ → ℕ) → (ℕ → Bool) → Call → Table → Reply × Table
-called bump fits c t = refusing (refusals bump fits c t) (λ k. (Refused k, t)) (Answered (answered bump c t), after bump c t)
+called bump fits c t = refusing (refusals bump fits c t) (λ k. (Err k, t)) (Ok (answered bump c t), after bump c t)

@@ -2,11 +2,9 @@
 --
 -- A row is given the stepping module's number p and private part `me`, the shared part `its` of the one module that it looks at, and the
 -- lock word. It leaves all three, and answers what happened. "What a row doesn't name keeps its value." `bump` is how a count changes.
-use Rattle.std.specs.Prelude.{ℕ, cond, List, [], ◌∷◌, eqb, ltb}
-use Rattle.link.specs.Operations.{CLOSED, pointed, opened, closed, swapped}
+use Rattle.std.specs.Prelude.{ℕ, cond, List, [], ◌∷◌, eqb, ltb, Ok, Err}
+use Rattle.link.specs.Operations.{CLOSED, pointed, opened, closed, Swapped, swapped}
 use Rattle.link.specs.declared.Link.{Link}
-use Rattle.link.specs.declared.Swapped.{Swapped}
-use Rattle.link.specs.declared.Swapped.TheVariants as swap
 use Rattle.stage.specs.Answers.{answer_of}
 use Rattle.stage.specs.declared.Private.{Private}
 use Rattle.stage.specs.declared.Shared.{Shared}
@@ -107,8 +105,8 @@ row8 bump p me its lock = leaves (goes 9 me) (with_link (pointed bump its.link m
 --    failed: w := found. Closed; 1
 --    failed and open; 10
 abbrev pub after9 : Private → Shared → ℕ → Swapped → Stepped
-after9 me its lock (swap.Done l) = leaves (goes 11 me) (with_link l its) lock Joined
-after9 me its lock (swap.Failed found) = leaves (goes (cond (eqb found.mark CLOSED) 1 10) (with_w found me)) its lock Done
+after9 me its lock (Ok l) = leaves (goes 11 me) (with_link l its) lock Joined
+after9 me its lock (Err found) = leaves (goes (cond (eqb found.mark CLOSED) 1 10) (with_w found me)) its lock Done
 
 abbrev pub row9 : Row
 row9 bump p me its lock = after9 me its lock (swapped bump its.link me.w p)

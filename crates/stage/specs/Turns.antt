@@ -1,7 +1,6 @@
 -- Whose turn is next. Document 02, R-2: "a small turn marker .. holds the last one served; next is the first after it around the table, itself
 -- last, not at stage 0 or 13."
-use Rattle.std.specs.Prelude.{ℕ, zero, suc, ◌-◌, Bool, cond, not, List, [], ◌∷◌, ◌++◌}
-use Rattle.std.proofs.Math.Option.{Option, none, some}
+use Rattle.std.specs.Prelude.{ℕ, zero, suc, ◌-◌, Bool, cond, not, List, [], ◌∷◌, ◌++◌, Option, None, Some}
 use Rattle.stage.specs.Calls.{rests}
 use Rattle.stage.specs.Table.{Table}
 
@@ -16,8 +15,8 @@ around n m = from (suc m) (n - m) ++ from 1 m
 
 -- the first of a list that passes a test, if one does
 unfoldable pub first_that : (ℕ → Bool) → List ℕ → Option ℕ
-first_that passes [] = none
-first_that passes (p ∷ others) = cond (passes p) (some p) (first_that passes others)
+first_that passes [] = None
+first_that passes (p ∷ others) = cond (passes p) (Some p) (first_that passes others)
 
 -- the module whose turn is next, if anybody can step
 unfoldable pub next_after : Table → ℕ → Option ℕ

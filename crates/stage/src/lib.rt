@@ -5,7 +5,7 @@
 #![tactic(auto)]
 
 ghost use Rattle.std.specs.Prelude.{◌≡◌};
-ghost use Rattle.stage.specs.Answers.{answer_of, module_admitted, length_taken};
+ghost use Rattle.stage.specs.Answers.{answer_of, admission, log_length, refusal_number};
 ghost use Rattle.stage.specs.Rows.{goes, with_own, with_priority};
 
 use link::Link;
@@ -14,7 +14,7 @@ use link::Link;
 pub const LAST: u8 = 19;
 
 // What only the module itself writes.
-#[derive(Clone, Copy)]
+#[derive(Clone, Copy, Debug, PartialEq, Eq)]
 pub struct Private {
     pub stage: u8,
     pub own: u8,
@@ -24,7 +24,7 @@ pub struct Private {
 }
 
 // What other modules may touch.
-#[derive(Clone, Copy)]
+#[derive(Clone, Copy, Debug, PartialEq, Eq)]
 pub struct Shared {
     pub link: Link,
     pub priority: u8,
@@ -32,7 +32,7 @@ pub struct Shared {
 }
 
 // What happened, with the admitted module and the length of the log taken.
-#[derive(Clone, Copy)]
+#[derive(Clone, Copy, Debug, PartialEq, Eq)]
 pub enum Event {
     Done,
     Waiting,
@@ -45,21 +45,42 @@ pub enum Event {
 }
 
 // An accepted call's answer: 01's number for what happened, and what happened.
-#[derive(Clone, Copy)]
+#[derive(Clone, Copy, Debug, PartialEq, Eq)]
 pub struct Answer {
     pub number: u8,
     pub event: Event,
 }
 
-// What a call says: a refusal's number alone, or an answer.
-#[derive(Clone, Copy)]
-pub enum Reply {
-    Refused(u8),
-    Answered(Answer),
+// What a call is refused for, by the numbers of 01 and 02.
+#[derive(Clone, Copy, Debug, PartialEq, Eq)]
+pub enum Refusal {
+    // The image is unsound.
+    Unsound = 1,
+    // The module number is 0 or above n.
+    NoSuchModule = 2,
+    // The priority is not 1 to 254.
+    PriorityOutOfRange = 3,
+    // The module is at a stage at which the call is not made.
+    WrongStage = 4,
+    // The step would admit, and the log holds 256.
+    LogFull = 5,
+    // The buffer for the log is shorter than the log length.
+    LogBufferTooShort = 6,
+    // n is not 1 to 64.
+    ModulesOutOfRange = 7,
+    // The buffer for the image is too short.
+    BufferTooShort = 8,
+    // A line of the program `turns` is malformed.
+    Malformed = 9,
+    // The turn marker is not 1 to n.
+    MarkerOutOfRange = 10,
 }
 
+// What a call says: an answer, or why it is refused.
+pub type Reply = Result<Answer, Refusal>;
+
 // What a step leaves: the module's private part, the shared part that it looked at, the lock word, and the answer.
-#[derive(Clone, Copy)]
+#[derive(Clone, Copy, Debug, PartialEq, Eq)]
 pub struct Stepped {
     pub me: Private,
     pub its: Shared,
@@ -117,23 +138,34 @@ impl Answer {
     }
 }
 
-// The module that an event admits, 0 where it is no admission.
-pub fn module_admitted(event: Event) -> u8
-    ensures { result ≡ module_admitted event }
-{
-    match event {
-        Event::Admitted(p) => p,
-        _ => 0,
+impl Event {
+    // The module that the event admits, if it is an admission.
+    pub fn admission(self) -> Option<u8>
+        ensures { result ≡ admission self }
+    {
+        match self {
+            Event::Admitted(p) => Some(p),
+            _ => None,
+        }
+    }
+
+    // The length of the log that the event takes, if it takes one.
+    pub fn log_length(self) -> Option<u16>
+        ensures { result ≡ log_length self }
+    {
+        match self {
+            Event::Taken(length) => Some(length),
+            _ => None,
+        }
     }
 }
 
-// The length of the log that an event takes, 0 where it takes none.
-pub fn length_taken(event: Event) -> u16
-    ensures { result ≡ length_taken event }
-{
-    match event {
-        Event::Taken(length) => length,
-        _ => 0,
+impl Refusal {
+    // Its number.
+    pub fn number(self) -> u8
+        ensures { result ≡ refusal_number self }
+    {
+        self as u8
     }
 }
 

@@ -9,7 +9,6 @@ use borrow.Author.Tests.{le-ltb}
 use lib.ListN.{length, take, drop}
 use lib.Seq.{length-take-le, take-append_seam}
 use Rattle.stage.specs.Calls.{take_log, capacity, refusals, refusing, answered}
-use Rattle.stage.specs.declared.Reply.{Reply}
 use Rattle.layout.specs.Layout.{read}
 use Rattle.layout.proofs.Rewritten.{length_held}
 use Rattle.soundness.specs.SoundImage.{sound}
@@ -23,6 +22,7 @@ use Rattle.lines.proofs.Texts.{reply_short, lock_short}
 use Rattle.turning.specs.Inside.{finished, standing, taken_of}
 use Rattle.turning.specs.Program.{last_line, held_log, end_text, text_of}
 use Rattle.turning.specs.Turn.{answer_to, image_after, Turns}
+use Rattle.stage.specs.Answers.{Reply}
 
 -- what taking the log says, and what it leaves in a buffer that is long enough, are the held log
 module _ (b lent : List ℕ) (room : length lent ≡ capacity) where

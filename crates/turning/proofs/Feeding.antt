@@ -8,7 +8,6 @@ use native.Mathlib.Omega.{arith}
 use borrow.Author.Tests.{eq-eqb, ne_eqb, lt-ltb, le-ltb}
 use lib.ListN.{length, take, get_or, set}
 use lib.Seq.{length-take-le, take_all, take-suc-set}
-use Rattle.stage.specs.declared.Reply.{Reply}
 use Rattle.laws.proofs.Said.{taken, passed}
 use Rattle.lines.specs.Inside.{Put}
 use Rattle.lines.specs.Text.{reply_text, Writes}
@@ -17,6 +16,7 @@ use Rattle.lines.proofs.Entries.{take_one_more}
 use Rattle.lines.proofs.Putting.{writes_put, front}
 use Rattle.turning.specs.Inside.{Session, grown, ended, fed, fed_all, standing}
 use Rattle.turning.specs.Turn.{answer_to, image_after, Turns}
+use Rattle.stage.specs.Answers.{Reply}
 
 -- sessions are the same part by part
 pub sessions : {b b' l l' t t' : List ℕ} → b ≡ b' → l ≡ l' → t ≡ t' → ◌≡◌ {A = Session} (record { image = b; line = l; text = t }) (record { image = b'; line = l'; text = t' })

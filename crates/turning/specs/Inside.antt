@@ -1,8 +1,6 @@
 -- What the private functions of this crate say of what they hand one another. No public contract cites this file.
-use Rattle.std.specs.Prelude.{ℕ, cond, List, [], ◌∷◌, ◌++◌, eqb, ltb, length, take}
-use Rattle.stage.specs.Answers.{length_taken}
-use Rattle.stage.specs.declared.Reply.{Reply}
-use Rattle.stage.specs.declared.Reply.TheVariants.{Refused, Answered}
+use Rattle.std.specs.Prelude.{ℕ, cond, List, [], ◌∷◌, ◌++◌, eqb, ltb, length, take, Ok, Err}
+use Rattle.stage.specs.Answers.{length_taken, Reply}
 use Rattle.lines.specs.Text.{reply_text}
 use Rattle.turning.specs.Turn.{answer_to, image_after}
 use Rattle.turning.specs.Program.{last_line, text_of}
@@ -48,5 +46,5 @@ standing image line count out at = record { image = image; line = take count lin
 
 -- how many entries of a log were taken
 abbrev pub taken_of : Reply → ℕ
-taken_of (Refused k) = 0
-taken_of (Answered a) = length_taken a.event
+taken_of (Err k) = 0
+taken_of (Ok a) = length_taken a.event

@@ -13,13 +13,14 @@ use Rattle.stage.specs.Answers.{answer_of}
 use Rattle.stage.specs.Calls.{set_up, within, capacity, refusing, refusals, answered, after}
 use Rattle.stage.specs.Table.{Table, idle, untouched, fresh_table}
 use Rattle.stage.specs.declared.Event.TheVariants.{Done}
-use Rattle.stage.specs.declared.Reply.TheVariants.{Refused, Answered}
 use Rattle.layout.specs.Layout.{length_for, distance_for, record_of, records_of, log_of, trailer_of, write, put}
 use Rattle.layout.proofs.Changes.{length_record, length_records, length_log}
 use Rattle.image.specs.Call.{fits, refused, Does}
 use Rattle.image.specs.Inside.{given}
 use Rattle.whole.proofs.Copies.{then_behind}
 use Rattle.image.proofs.Refusals.{in_range, refuses, accepts}
+use Rattle.stage.specs.declared.Refusal.TheVariants.{BufferTooShort, ModulesOutOfRange}
+use Rattle.std.specs.Prelude.{Ok, Err}
 
 -- one record more
 pub record_more : (d : List ℕ) (first n k : ℕ) {b fresh b' : List ℕ} → first + 16 * (k + 1) ≤ length d → fresh ≡ record_of idle untouched →
@@ -64,15 +65,15 @@ unfolding refused refusals
 asks b n = refl
 
 module _ (b : List ℕ) (n : ℕ) where
-  pub no_number : not (within 1 64 n) ≡ true → Does (set_up n) b (Refused 7) b
+  pub no_number : not (within 1 64 n) ≡ true → Does (set_up n) b (Err ModulesOutOfRange) b
   unfolding given refusing
   no_number outside = refuses (set_up n) b 7 (ap given (asks b n) ∙ simp outside)
 
   module _ (least : 1 ≤ n) (most : n ≤ 64) where
-    pub no_room : length b < length_for n → Does (set_up n) b (Refused 8) b
+    pub no_room : length b < length_for n → Does (set_up n) b (Err BufferTooShort) b
     unfolding given refusing
     no_room h = refuses (set_up n) b 8 (ap given (asks b n) ∙ simp (in_range 1 64 n least most, lt-leb (length_for n) (length b) h))
 
-    pub sets_up : {b' : List ℕ} → length_for n ≤ length b → b' ≡ put (fresh_table n) b → Does (set_up n) b (Answered (answer_of Done)) b'
+    pub sets_up : {b' : List ℕ} → length_for n ≤ length b → b' ≡ put (fresh_table n) b → Does (set_up n) b (Ok (answer_of Done)) b'
     unfolding given refusing answered after
     sets_up h put_is = accepts (set_up n) b (ap given (asks b n) ∙ simp (in_range 1 64 n least most, le-leb (length_for n) (length b) h)) refl put_is

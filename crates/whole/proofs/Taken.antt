@@ -3,7 +3,6 @@
 use mathlib.Core.Path.{◌≡◌, refl, sym, ◌∙◌, ap, ap₂}
 use mathlib.Core.Bool.{Bool, true, false, not}
 use mathlib.Core.List.{List, [], ◌∷◌, ◌++◌}
-use mathlib.Core.Option.{none, some}
 use Prim.Native.Nat.{ℕ, ◌+◌, ◌≤◌, ◌<◌}
 use native.Mathlib.Omega.{arith}
 use borrow.Author.Tests.{lt-ltb, le-ltb}
@@ -15,7 +14,6 @@ use Rattle.stage.specs.Calls.{take_log, capacity, refusing, refusals, answered, 
 use Rattle.stage.specs.Table.{log_taken}
 use Rattle.stage.specs.declared.Answer.{Answer}
 use Rattle.stage.specs.declared.Event.TheVariants.{Taken}
-use Rattle.stage.specs.declared.Reply.TheVariants.{Refused, Answered}
 use Rattle.layout.specs.Layout.{held, log_at, read, put}
 use Rattle.layout.proofs.Rewritten.{length_held}
 use Rattle.soundness.specs.SoundImage.{sound}
@@ -23,6 +21,8 @@ use Rattle.image.specs.Call.{refused, buffer, Does}
 use Rattle.image.specs.Inside.{given}
 use Rattle.image.proofs.Refusals.{chosen, refuses, accepts}
 use Rattle.image.proofs.Sound.{written}
+use Rattle.stage.specs.declared.Refusal.TheVariants.{LogBufferTooShort, Unsound}
+use Rattle.std.specs.Prelude.{None, Some, Ok, Err}
 
 -- a sound image has a log and a trailer
 pub long : (b : List ℕ) → sound b ≡ true → 268 ≤ length b
@@ -50,11 +50,11 @@ module _ (b lent : List ℕ) where
   asks = refl
 
   -- both buffers keep all their bytes
-  refused_both : (k : ℕ) → given (refused (take_log (length lent)) b) ≡ some k → Does (take_log (length lent)) b (Refused k) b × (lent ≡ buffer b lent)
+  refused_both : (k : ℕ) → given (refused (take_log (length lent)) b) ≡ Some k → Does (take_log (length lent)) b (Err k) b × (lent ≡ buffer b lent)
   unfolding buffer
-  refused_both k g = (refuses (take_log (length lent)) b k g, sym (chosen (λ j. lent) _ (refused (take_log (length lent)) b) (some k) g))
+  refused_both k g = (refuses (take_log (length lent)) b k g, sym (chosen (λ j. lent) _ (refused (take_log (length lent)) b) (Some k) g))
 
-  pub untaken : sound b ≡ false → Does (take_log (length lent)) b (Refused 1) b × (lent ≡ buffer b lent)
+  pub untaken : sound b ≡ false → Does (take_log (length lent)) b (Err Unsound) b × (lent ≡ buffer b lent)
   unfolding given refusing
   untaken no_b = refused_both 1 (ap given asks ∙ simp no_b)
 
@@ -63,15 +63,15 @@ module _ (b lent : List ℕ) where
     unfolding given refusing
     given_is t e = ap given asks ∙ simp (is, entries b is k k_is, e)
 
-    pub short : length lent < k → Does (take_log (length lent)) b (Refused 6) b × (lent ≡ buffer b lent)
+    pub short : length lent < k → Does (take_log (length lent)) b (Err LogBufferTooShort) b × (lent ≡ buffer b lent)
     unfolding given refusing
     short h = refused_both 6 (given_is true (lt-ltb _ _ h))
 
     pub takes : {b' lent' : List ℕ} (a : Answer) → k ≤ length lent → a ≡ answer_of (Taken k) → b' ≡ put (log_taken (read b)) b → lent' ≡ (read b).log ++ drop (length (read b).log) lent →
-        Does (take_log (length lent)) b (Answered a) b' × (lent' ≡ buffer b lent)
+        Does (take_log (length lent)) b (Ok a) b' × (lent' ≡ buffer b lent)
     unfolding given refusing answered after buffer
     takes a h a_is put_is handed_over =
-        let g : given (refused (take_log (length lent)) b) ≡ none = given_is false (le-ltb _ _ h) in (
-          accepts (take_log (length lent)) b g (ap Answered (a_is ∙ ap (λ (j : ℕ). answer_of (Taken j)) (sym (entries b is k k_is)))) put_is,
-          handed_over ∙ sym (chosen (λ j. lent) _ (refused (take_log (length lent)) b) none g),
+        let g : given (refused (take_log (length lent)) b) ≡ None = given_is false (le-ltb _ _ h) in (
+          accepts (take_log (length lent)) b g (ap Ok (a_is ∙ ap (λ (j : ℕ). answer_of (Taken j)) (sym (entries b is k k_is)))) put_is,
+          handed_over ∙ sym (chosen (λ j. lent) _ (refused (take_log (length lent)) b) None g),
         )
