@@ -1,8 +1,9 @@
 -- What follows a swap, and row 9 by it. Assumes nothing.
 use Prim.Native.Nat.{ℕ}
-use mathlib.Core.Path.{◌≡◌, refl, sym, ◌∙◌, ap}
-use mathlib.Core.Bool.{Bool, true, false, cond, false≢true}
+use mathlib.Core.Path.{◌≡◌, refl, sym, ◌∙◌, ap, subst⁻¹}
+use mathlib.Core.Bool.{cond}
 use lib.Dec.{eqb}
+use Rattle.std.specs.Prelude.{Result, Ok, Err}
 use Rattle.link.specs.Operations.{CLOSED, swapped, Swapped}
 use Rattle.stage.specs.Answers.{answer_of}
 use Rattle.stage.specs.Rows.{goes, with_w, leaves, after9, find, rows, stepped}
@@ -12,13 +13,13 @@ use Rattle.stage.specs.declared.Shared.{Shared}
 use Rattle.row.specs.AfterSwap.{Follows}
 use Rattle.row.proofs.AtStage.{at_stage}
 
-pub done : (b : Bool) (mark : ℕ) → b ≡ true → Follows b mark (record { stage = 11; answer = answer_of Joined })
-done true mark e = λ me its lock l. refl
-done false mark e = absurd (false≢true e)
+pub done : (r : Result (Unit {0}) ℕ) (u : Unit {0}) → r ≡ Ok u → Follows r (record { stage = 11; answer = answer_of Joined })
+done r u e = subst⁻¹ (λ (x : Result (Unit {0}) ℕ). Follows x (record { stage = 11; answer = answer_of Joined })) e (λ me its lock l. refl)
 
-pub failed : (b : Bool) (mark k : ℕ) → b ≡ false → k ≡ cond (eqb mark CLOSED) 1 10 → Follows b mark (record { stage = k; answer = answer_of Done })
-failed true mark k e to = absurd (false≢true (sym e))
-failed false mark k e to = λ me its lock found same. ap (λ (j : ℕ). leaves (goes j (with_w found me)) its lock Done) (ap (λ (m : ℕ). cond (eqb m CLOSED) 1 10) same ∙ sym to)
+pub failed : (r : Result (Unit {0}) ℕ) (mark k : ℕ) → r ≡ Err mark → k ≡ cond (eqb mark CLOSED) 1 10 → Follows r (record { stage = k; answer = answer_of Done })
+failed r mark k e to =
+    subst⁻¹ (λ (x : Result (Unit {0}) ℕ). Follows x (record { stage = k; answer = answer_of Done })) e
+    (λ me its lock found same. ap (λ (j : ℕ). leaves (goes j (with_w found me)) its lock Done) (ap (λ (m : ℕ). cond (eqb m CLOSED) 1 10) same ∙ sym to))
 
 -- row 9, by what its swap says
 pub by_swap : (bump : ℕ → ℕ) (p : ℕ) (me : Private) (its : Shared) (lock : ℕ) → me.stage ≡ 9 → (s : Swapped) → swapped bump its.link me.w p ≡ s

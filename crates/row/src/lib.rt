@@ -9,7 +9,6 @@ ghost use Rattle.link.specs.Count.{next, size};
 ghost use Rattle.stage.specs.Rows.{looks_at, stepped};
 ghost use Rattle.row.specs.AfterSwap.{Follows};
 
-use link::{Link, Swapped};
 use stage::{Answer, Private, Shared, Stepped};
 
 // Whose shared part the module p looks at in its step.
@@ -34,7 +33,7 @@ pub fn looks_at(me: Private, p: u8) -> u8
 pub const SWAP: u8 = 9;
 
 // Where a swap leads, and its answer.
-#[derive(Clone, Copy)]
+#[derive(Clone, Copy, Debug, PartialEq, Eq)]
 pub struct After {
     pub stage: u8,
     pub answer: Answer,
@@ -42,18 +41,18 @@ pub struct After {
 
 // What follows a swap at stage 9: it was done, or it failed and found a link with this mark.
 #[tactic(auto, using(crate::proofs::AfterSwap::done, crate::proofs::AfterSwap::failed))]
-pub fn after_swap(done: bool, mark: u8) -> After
-    ensures { Follows done mark result }
+pub fn after_swap(swapped: Result<(), u8>) -> After
+    ensures { Follows swapped result }
 {
-    if done {
-        return After {
+    match swapped {
+        Ok(()) => After {
             stage: 11,
             answer: Answer::JOINED,
-        };
-    }
-    After {
-        stage: if mark == link::CLOSED { 1 } else { 10 },
-        answer: Answer::DONE,
+        },
+        Err(mark) => After {
+            stage: if mark == link::CLOSED { 1 } else { 10 },
+            answer: Answer::DONE,
+        },
     }
 }
 
@@ -129,15 +128,15 @@ pub fn step(p: u8, me: Private, its: Shared, mut lock: u8) -> Stepped
             Answer::DONE
         }
         9 => match link.swap(w, p) {
-            Swapped::Done(now) => {
+            Ok(now) => {
                 link = now;
-                let after = after_swap(true, now.mark);
+                let after = after_swap(Ok(()));
                 next = after.stage;
                 after.answer
             }
-            Swapped::Failed(found) => {
+            Err(found) => {
                 w = found;
-                let after = after_swap(false, found.mark);
+                let after = after_swap(Err(found.mark));
                 next = after.stage;
                 after.answer
             }

@@ -7,15 +7,15 @@ use Rattle.row.proofs.AfterSwap.{by_swap}
 use Rattle.row.proofs.AtStage.{past_the_table}
 use Rattle.row.proofs.step.Goals as goal
 
-pub returns-in-Done : goal.returns-in-Done
+pub returns-in-Ok : goal.returns-in-Ok
 unfolding find rows
-returns-in-Done c = let start = c.args in
-    sym (c.after_swap-after.ensures start.me start.its _ _) ∙ by_swap _ _ _ _ _ c.in-9.is _ (sym c.swap.ensures ∙ c.in-Done.is)
+returns-in-Ok c = let start = c.args in
+    sym (c.after_swap-after.ensures start.me start.its _ _) ∙ by_swap _ _ _ _ _ c.in-9.is _ (sym c.swap.ensures ∙ c.in-Ok.is)
 
-pub returns-in-Failed : goal.returns-in-Failed
+pub returns-in-Err : goal.returns-in-Err
 unfolding find rows
-returns-in-Failed c = let start = c.args in
-    sym (c.after_swap-after-in-Failed.ensures start.me start.its _ _ refl) ∙ by_swap _ _ _ _ _ c.in-9.is _ (sym c.swap.ensures ∙ c.in-Failed.is)
+returns-in-Err c = let start = c.args in
+    sym (c.after_swap-after-in-Err.ensures start.me start.its _ _ refl) ∙ by_swap _ _ _ _ _ c.in-9.is _ (sym c.swap.ensures ∙ c.in-Err.is)
 
 pub returns-in_default : goal.returns-in_default
 unfolding find rows
