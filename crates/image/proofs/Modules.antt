@@ -17,13 +17,10 @@ use Rattle.layout.specs.Layout.{modules, record_at, private_at, shared_at, trail
 use Rattle.layout.proofs.Rewritten.{private_read, shared_read, length_held}
 use Rattle.image.specs.declared.Frame.{Frame}
 use Rattle.image.specs.declared.Module.{Module}
-use Rattle.image.specs.declared.Found.{Found}
-use Rattle.image.specs.declared.Found.TheVariants as found
 use Rattle.image.specs.Call.{Does}
-use Rattle.image.specs.Inside.{Framed, IsNumber, IsModule, given, unfound, Finds, Looks}
+use Rattle.image.specs.Inside.{Framed, IsNumber, IsModule, Looks}
 use Rattle.image.proofs.Sound.{table}
 use Rattle.stage.specs.Answers.{Reply}
-use Rattle.std.specs.Prelude.{Some}
 
 pub entries : (b : List ℕ) (f : Frame) → Framed b f → length (read b).log ≡ f.held
 entries b f framed = length_held b framed.fits framed.held_fits ∙ sym framed.held_is
@@ -42,24 +39,6 @@ is_module b f p at me framed least most place same =
 
 pub same_number : (call : ℕ → Call) (b : List ℕ) {p q : ℕ} {x : Reply} {b' : List ℕ} → p ≡ q → Does (call p) b x b' → Does (call q) b x b'
 same_number call b {x = x} {b' = b'} same = subst (λ (j : ℕ). Does (call j) b x b') same
-
--- the two ways out of the search for a module
-module _ (b : List ℕ) (p unknown : ℕ) (r : Found) (finds : Finds b p unknown r) where
-  pub was_refused : (k : ℕ) → r ≡ found.Refused k → given (unfound b p unknown) ≡ Some k
-  was_refused k e = subst (Finds b p unknown) e finds
-
-  pub was_found : (q : ℕ) → r ≡ found.Number q → IsNumber b q
-  was_found q e = (subst (Finds b p unknown) e finds).0
-
-  pub is_named : (q : ℕ) → r ≡ found.Number q → q ≡ p
-  is_named q e = (subst (Finds b p unknown) e finds).1
-
-  pub names_one : (q : ℕ) → r ≡ found.Number q → IsNumber b p
-  names_one q e = subst (IsNumber b) (is_named q e) (was_found q e)
-
-  -- what a call does for the module found it does for p
-  pub by_number : (call : ℕ → Call) (q i : ℕ) {x : Reply} {b' : List ℕ} → r ≡ found.Number q → i ≡ q → Does (call i) b x b' → Does (call p) b x b'
-  by_number call q i e same = same_number call b (same ∙ is_named q e)
 
 -- the module that a step looks at
 pub seen : (b : List ℕ) (p : ℕ) → IsNumber b p → (1 ≤ looks_at p ((read b).private p)) × (looks_at p ((read b).private p) ≤ modules b)

@@ -21,22 +21,22 @@ use Rattle.image.specs.declared.Module.{Module}
 use Rattle.image.specs.declared.Looked.{Looked}
 use Rattle.image.proofs.Modules.{entries}
 use Rattle.image.proofs.Refusals.{in_range, refuses, accepts, found}
-use Rattle.stage.specs.declared.Refusal.TheVariants.{LogFull, PriorityOutOfRange, WrongStage}
+use Rattle.stage.specs.declared.Refusal.TheVariants.{NoSuchModule, PriorityOutOfRange, WrongStage, LogFull}
 use Rattle.stage.specs.declared.Refusal.{Refusal}
 use Rattle.std.specs.Prelude.{Ok, Err}
 
 -- what each asks of a module that was found
 abbrev acquisition_asks : List ℕ → ℕ → ℕ → List (Bool × Refusal)
-acquisition_asks b p r = (not (within 1 254 r), 3) ∷ (not (eqb ((read b).private p).stage 0), 4) ∷ []
+acquisition_asks b p r = (not (within 1 254 r), PriorityOutOfRange) ∷ (not (eqb ((read b).private p).stage 0), WrongStage) ∷ []
 
-pub acquisition_refused : (b : List ℕ) (p r : ℕ) → refused (begin_acquisition p r) b ≡ unfound b p 2 ++ acquisition_asks b p r
+pub acquisition_refused : (b : List ℕ) (p r : ℕ) → refused (begin_acquisition p r) b ≡ unfound b p NoSuchModule ++ acquisition_asks b p r
 unfolding refused refusals unfound read
 acquisition_refused b p r = refl
 
 abbrev release_asks : List ℕ → ℕ → List (Bool × Refusal)
-release_asks b p = (not (eqb ((read b).private p).stage 13), 4) ∷ []
+release_asks b p = (not (eqb ((read b).private p).stage 13), WrongStage) ∷ []
 
-pub release_refused : (b : List ℕ) (p : ℕ) → refused (begin_release p) b ≡ unfound b p 2 ++ release_asks b p
+pub release_refused : (b : List ℕ) (p : ℕ) → refused (begin_release p) b ≡ unfound b p NoSuchModule ++ release_asks b p
 unfolding refused refusals unfound read
 release_refused b p = refl
 
@@ -44,9 +44,9 @@ abbrev pub overfull : List ℕ → ℕ → Bool
 overfull b p = admits (step_of (next size) (read b) p).answer.event && leb capacity (length (read b).log)
 
 abbrev step_asks : List ℕ → ℕ → List (Bool × Refusal)
-step_asks b p = (rests (read b) p, 4) ∷ (overfull b p, 5) ∷ []
+step_asks b p = (rests (read b) p, WrongStage) ∷ (overfull b p, LogFull) ∷ []
 
-pub step_refused : (b : List ℕ) (p : ℕ) → refused (step p) b ≡ unfound b p 2 ++ step_asks b p
+pub step_refused : (b : List ℕ) (p : ℕ) → refused (step p) b ≡ unfound b p NoSuchModule ++ step_asks b p
 unfolding refused refusals unfound read
 step_refused b p = refl
 
@@ -58,7 +58,7 @@ module _ (b : List ℕ) (m : Module) (is : IsModule b m) where
   stage_is = ap (λ (x : Private). x.stage) (sym is.me_is)
 
   -- past the search only what the call asks is left
-  asked : (c : Call) (es : List (Bool × Refusal)) → refused c b ≡ unfound b p 2 ++ es → given (refused c b) ≡ given es
+  asked : (c : Call) (es : List (Bool × Refusal)) → refused c b ≡ unfound b p NoSuchModule ++ es → given (refused c b) ≡ given es
   asked c es asks = found c b p es asks is.framed.is is.least is.most
 
   -- begin an acquisition
@@ -68,12 +68,12 @@ module _ (b : List ℕ) (m : Module) (is : IsModule b m) where
 
     pub no_priority : not (within 1 254 r) ≡ true → Does (begin_acquisition p r) b (Err PriorityOutOfRange) b
     unfolding given refusing
-    no_priority outside = refuses (begin_acquisition p r) b 3 (acquisition_given ∙ simp outside)
+    no_priority outside = refuses (begin_acquisition p r) b PriorityOutOfRange (acquisition_given ∙ simp outside)
 
     module _ (least : 1 ≤ r) (most : r ≤ 254) where
       pub not_idle : (m.me.stage ≡ 0 → ⊥) → Does (begin_acquisition p r) b (Err WrongStage) b
       unfolding given refusing
-      not_idle h = refuses (begin_acquisition p r) b 4 (acquisition_given ∙ simp (in_range 1 254 r least most, stage_is, ne_eqb _ _ h))
+      not_idle h = refuses (begin_acquisition p r) b WrongStage (acquisition_given ∙ simp (in_range 1 254 r least most, stage_is, ne_eqb _ _ h))
 
       pub acquires : {b' : List ℕ} → m.me.stage ≡ 0 → b' ≡ put (begun_acquisition (read b) p r) b → Does (begin_acquisition p r) b (Ok (answer_of Done)) b'
       unfolding given refusing answered after
@@ -85,7 +85,7 @@ module _ (b : List ℕ) (m : Module) (is : IsModule b m) where
 
   pub not_inside : (m.me.stage ≡ 13 → ⊥) → Does (begin_release p) b (Err WrongStage) b
   unfolding given refusing
-  not_inside h = refuses (begin_release p) b 4 (release_given ∙ simp (stage_is, ne_eqb _ _ h))
+  not_inside h = refuses (begin_release p) b WrongStage (release_given ∙ simp (stage_is, ne_eqb _ _ h))
 
   pub releases : {b' : List ℕ} → m.me.stage ≡ 13 → b' ≡ put (begun_release (read b) p) b → Does (begin_release p) b (Ok (answer_of Done)) b'
   unfolding given refusing answered after
@@ -99,12 +99,12 @@ module _ (b : List ℕ) (p : ℕ) (is : IsNumber b p) where
   -- at 0 and 13 there is none
   pub no_step : rests (read b) p ≡ true → Does (step p) b (Err WrongStage) b
   unfolding given refusing
-  no_step e = refuses (step p) b 4 (step_given ∙ simp e)
+  no_step e = refuses (step p) b WrongStage (step_given ∙ simp e)
 
   module _ (moves : rests (read b) p ≡ false) where
     pub full : overfull b p ≡ true → Does (step p) b (Err LogFull) b
     unfolding given refusing
-    full e = refuses (step p) b 5 (step_given ∙ simp (moves, e))
+    full e = refuses (step p) b LogFull (step_given ∙ simp (moves, e))
 
     pub steps : {b' : List ℕ} (a : Answer) → overfull b p ≡ false → a ≡ (step_of (next size) (read b) p).answer → b' ≡ put (after_step (next size) (read b) p) b → Does (step p) b (Ok a) b'
     unfolding given refusing answered after

@@ -1,6 +1,6 @@
 -- Which refusal is given, and what a call does where one is and where none is.
 -- Assumes nothing.
-use mathlib.Core.Path.{◌≡◌, refl, sym, ◌∙◌, ap}
+use mathlib.Core.Path.{◌≡◌, refl, sym, ◌∙◌, ap, subst⁻¹}
 use mathlib.Core.Bool.{Bool, true, false, not, cond}
 use mathlib.Core.List.{List, [], ◌∷◌, ◌++◌}
 use Prim.Native.Nat.{ℕ, ◌≤◌, ◌<◌}
@@ -15,11 +15,12 @@ use Rattle.image.specs.Call.{refused, reply, image, Does}
 use Rattle.image.specs.Inside.{given, unfound}
 use Rattle.stage.specs.Answers.{Reply}
 use Rattle.stage.specs.declared.Refusal.{Refusal}
+use Rattle.stage.specs.declared.Refusal.TheVariants.{Unsound, NoSuchModule}
 use Rattle.std.specs.Prelude.{Option, None, Some, Ok, Err}
 
 -- all that a list of refusals says is the number given
-module _ {A : Type 0} (no_k : ℕ → A) (yes_a : A) where
-  abbrev pub by : Option ℕ → A
+module _ {A : Type 0} (no_k : Refusal → A) (yes_a : A) where
+  abbrev pub by : Option Refusal → A
   by None = yes_a
   by (Some k) = no_k k
 
@@ -32,12 +33,12 @@ module _ {A : Type 0} (no_k : ℕ → A) (yes_a : A) where
       here true rest = refl
       here false rest = rest
 
-  pub chosen : (es : List (Bool × Refusal)) (o : Option ℕ) → given es ≡ o → refusing es no_k yes_a ≡ by o
+  pub chosen : (es : List (Bool × Refusal)) (o : Option Refusal) → given es ≡ o → refusing es no_k yes_a ≡ by o
   chosen es o g = by_given es ∙ ap by g
 
 -- what a call does where it is refused, and where it is not
 module _ (c : Call) (b : List ℕ) where
-  pub refuses : (k : ℕ) → given (refused c b) ≡ Some k → Does c b (Err k) b
+  pub refuses : (k : Refusal) → given (refused c b) ≡ Some k → Does c b (Err k) b
   unfolding reply image
   refuses k g = record { says = sym (chosen Err _ (refused c b) (Some k) g); leaves = sym (chosen (λ j. b) _ (refused c b) (Some k) g) }
 
@@ -57,8 +58,8 @@ module _ (a b x : ℕ) where
   in_range low high = simp (le-leb a x low, le-leb x b high)
 
 -- what everything that names a module asks
-module _ (b : List ℕ) (p unknown : ℕ) where
-  pub unsound : sound b ≡ false → given (unfound b p unknown) ≡ Some 1
+module _ (b : List ℕ) (p : ℕ) (unknown : Refusal) where
+  pub unsound : sound b ≡ false → given (unfound b p unknown) ≡ Some Unsound
   unfolding refusing given unfound
   unsound no_b = simp no_b
 
@@ -67,10 +68,10 @@ module _ (b : List ℕ) (p unknown : ℕ) where
   no_module is outside = simp (is, outside)
 
 -- a call that names module p asks that, and then es
-module _ (c : Call) (b : List ℕ) (p : ℕ) (es : List (Bool × Refusal)) (asks : refused c b ≡ unfound b p 2 ++ es) where
-  pub not_found : (k : ℕ) → given (unfound b p 2) ≡ Some k → Does c b (Err k) b
+module _ (c : Call) (b : List ℕ) (p : ℕ) (es : List (Bool × Refusal)) (asks : refused c b ≡ unfound b p NoSuchModule ++ es) where
+  pub not_found : (k : Refusal) {r : Reply} → given (unfound b p NoSuchModule) ≡ Some k → r ≡ Err k → Does c b r b
   unfolding refusing given unfound
-  not_found k g = refuses c b k (ap given asks ∙ chosen Some (given es) (unfound b p 2) (Some k) g)
+  not_found k g e = subst⁻¹ (λ (r : Reply). Does c b r b) e (refuses c b k (ap given asks ∙ chosen Some (given es) (unfound b p NoSuchModule) (Some k) g))
 
   pub found : sound b ≡ true → 1 ≤ p → p ≤ modules b → given (refused c b) ≡ given es
   unfolding refusing given unfound

@@ -16,7 +16,7 @@ use Rattle.link.specs.Operations.{swapped, Swapped}
 use Rattle.link.specs.declared.Link.{Link}
 use Rattle.inplace.specs.declared.Place.{Place}
 use Rattle.stage.specs.Answers.{answer_of}
-use Rattle.stage.specs.Calls.{admits}
+use Rattle.stage.specs.Calls.{step, admits}
 use Rattle.stage.specs.Rows.{goes, with_w, with_link, after9, find, rows, looked, looks_at, stepped}
 use Rattle.stage.specs.Table.{Table, upd, step_of, logged, after_step}
 use Rattle.stage.specs.declared.Answer.{Answer}
@@ -32,13 +32,13 @@ use Rattle.row.proofs.AfterSwap.{by_swap}
 use Rattle.layout.specs.Layout.{byte, length_for, modules, record_at, private_at, read, put}
 use Rattle.layout.proofs.Changes.{with_shared, w_place, link_place, w_there, its_there, put_stage, put_w, put_link}
 use Rattle.layout.proofs.Rewritten.{private_read, shared_read}
-use Rattle.image.specs.Inside.{IsNumber, Says}
+use Rattle.image.specs.Inside.{IsNumber}
+use Rattle.image.specs.Call.{Does}
 use Rattle.image.proofs.Modules.{seen}
 use Rattle.image.proofs.Named.{steps}
-use Rattle.image.proofs.Replies.{answer_said, by_reply}
 use Rattle.image.proofs.Sound.{written}
 use Rattle.image.proofs.Stored.{at_first, room, kept}
-use Rattle.std.specs.Prelude.{Ok, Err}
+use Rattle.std.specs.Prelude.{Result, Ok, Err}
 
 -- the mark of a link that was put at a place, where its count lies elsewhere
 mark_put : (b : List ℕ) (l : Place) (x : Link) → l.pointer + 2 ≤ length b → l.pointer + 1 < l.count → byte (link_put b l x) (l.pointer + 1) ≡ x.mark
@@ -49,6 +49,11 @@ mark_put b l x fits apart =
     get_or-set_other (set b₂ l.count (x.count / 256)) (l.count + 1) (l.pointer + 1) (x.count % 256) 0 (λ (e : l.pointer + 1 ≡ l.count + 1). omega arith)
     ∙ get_or-set_other b₂ l.count (l.pointer + 1) (x.count / 256) 0 (λ (e : l.pointer + 1 ≡ l.count). omega arith)
     ∙ get_or-set_same b₁ (l.pointer + 1) x.mark 0 (omega (arith, length-set b l.pointer x.pointer))
+
+-- what a swap says, with the mark found where it failed
+abbrev pub told : Bool → ℕ → Result (Unit {0}) ℕ
+told true mark = Ok tt
+told false mark = Err mark
 
 module _ (b : List ℕ) (p : ℕ) (is : IsNumber b p) (nine : byte b (record_at b p) ≡ 9) (bytes : (i : ℕ) → byte b i < 256) where
   abbrev t : Table
@@ -137,7 +142,7 @@ module _ (b : List ℕ) (p : ℕ) (is : IsNumber b p) (nine : byte b (record_at 
       }
 
   module _ (a : After) {b₁ b₂ : List ℕ} (stored : b₂ ≡ set b₁ (record_at b p) a.stage) where
-    was_done : (l : Link) → swap_is ≡ Ok l → b₁ ≡ link_put b found l → Follows true (byte b₁ (wanted.pointer + 1)) a → Took a b₂
+    was_done : (l : Link) → swap_is ≡ Ok l → b₁ ≡ link_put b found l → Follows (told true (byte b₁ (wanted.pointer + 1))) a → Took a b₂
     unfolding read
     was_done l e put_is follows =
         let row_is = follows me its t.lock l in
@@ -147,7 +152,7 @@ module _ (b : List ℕ) (p : ℕ) (is : IsNumber b p) (nine : byte b (record_at 
         (stored ∙ ap (λ (x : List ℕ). set x (record_at b p) a.stage) linked
         ∙ sym (put_stage (with_shared t me.prev (with_link l its)) b (room b is.0 bytes) p a.stage is.1 is.2))
 
-    was_failed : (l : Link) → swap_is ≡ Err l → b₁ ≡ link_put b wanted l → Follows false (byte b₁ (wanted.pointer + 1)) a → Took a b₂
+    was_failed : (l : Link) → swap_is ≡ Err l → b₁ ≡ link_put b wanted l → Follows (told false (byte b₁ (wanted.pointer + 1))) a → Took a b₂
     unfolding read
     was_failed l e put_is follows =
         let mark : l.mark ≡ byte b₁ (wanted.pointer + 1) = sym (ap (λ (x : List ℕ). byte x (wanted.pointer + 1)) put_is ∙ mark_put b wanted l (omega (arith, fits, is.1, is.2)) (omega arith)) in
@@ -157,32 +162,31 @@ module _ (b : List ℕ) (p : ℕ) (is : IsNumber b p) (nine : byte b (record_at 
         ∙ sym (put_w t b (room b is.0 bytes) p a.stage l is.1 is.2)
         ∙ ap (λ (f : ℕ → Shared). put (record { n = t.n; private = upd t.private p (goes a.stage (with_w l me)); shared = f; lock = t.lock; log = t.log }) b) (sym (upd_kept t.shared me.prev)))
 
-    by_what : (s : Swapped) → swap_is ≡ s → (done : Bool) → done ≡ (left s b found wanted).0 → b₁ ≡ (left s b found wanted).1 → Follows done (byte b₁ (wanted.pointer + 1)) a → Took a b₂
+    by_what : (s : Swapped) → swap_is ≡ s → (done : Bool) → done ≡ (left s b found wanted).0 → b₁ ≡ (left s b found wanted).1 → Follows (told done (byte b₁ (wanted.pointer + 1))) a → Took a b₂
     unfolding left
-    by_what (Ok l) e done says put_is follows = was_done l e put_is (subst (λ (x : Bool). Follows x (byte b₁ (wanted.pointer + 1)) a) says follows)
-    by_what (Err l) e done says put_is follows = was_failed l e put_is (subst (λ (x : Bool). Follows x (byte b₁ (wanted.pointer + 1)) a) says follows)
+    by_what (Ok l) e done says put_is follows = was_done l e put_is (subst (λ (x : Bool). Follows (told x (byte b₁ (wanted.pointer + 1))) a) says follows)
+    by_what (Err l) e done says put_is follows = was_failed l e put_is (subst (λ (x : Bool). Follows (told x (byte b₁ (wanted.pointer + 1))) a) says follows)
 
-    took : (done : Bool) → (done ≡ (swapped_in (next size) b found wanted p).0) × (b₁ ≡ (swapped_in (next size) b found wanted p).1) → Follows done (byte b₁ (wanted.pointer + 1)) a → Took a b₂
+    took : (done : Bool) → (done ≡ (swapped_in (next size) b found wanted p).0) × (b₁ ≡ (swapped_in (next size) b found wanted p).1) → Follows (told done (byte b₁ (wanted.pointer + 1))) a → Took a b₂
     took done swaps = by_what swap_is refl done (swaps.0 ∙ ap (λ (x : Bool × List ℕ). x.0) swapped_there) (swaps.1 ∙ ap (λ (x : Bool × List ℕ). x.1) swapped_there)
 
   -- so the step is taken
-  says_so : (a : After) (b₂ : List ℕ) → Took a b₂ → Says p b a.answer.number b₂
+  says_so : (a : After) (b₂ : List ℕ) → Took a b₂ → Does (step p) b (Ok a.answer) b₂
   says_so a b₂ took =
-      by_reply p b (answer_said b p is a.answer took.answer_is)
-      (steps b p is (ap (λ (k : ℕ). eqb k 0 || eqb k 13) at_nine) a.answer
-      (no_left _ _ (ap (λ (x : Answer). admits x.event) (sym took.answer_is) ∙ took.quiet)) took.answer_is took.leaves_it)
+      steps b p is (ap (λ (k : ℕ). eqb k 0 || eqb k 13) at_nine) a.answer
+      (no_left _ _ (ap (λ (x : Answer). admits x.event) (sym took.answer_is) ∙ took.quiet)) took.answer_is took.leaves_it
 
   pub prev_read : (at : ℕ) → at ≡ record_at b p → (1 ≤ byte b (at + 2)) × (byte b (at + 2) ≤ modules b)
   prev_read at e = subst⁻¹ (λ (q : ℕ). (1 ≤ q) × (q ≤ modules b)) (prev_is at e) prev_known
 
   -- the whole step, by the places that the code works out
-  pub step_there : (at other : ℕ) (l w : Place) (done : Bool) (a : After) {b₁ b₂ : List ℕ} → at ≡ record_at b p → other ≡ record_at b (byte b (at + 2)) → l ≡ link_place other → w ≡ w_place at
-      → (done ≡ (swapped_in (next size) b l w p).0) × (b₁ ≡ (swapped_in (next size) b l w p).1) → Follows done (byte b₁ (at + 4)) a → b₂ ≡ set b₁ at a.stage → Says p b a.answer.number b₂
-  step_there at other l w done a {b₁} {b₂} here there l_is w_is swaps follows stored =
+  pub step_there : (at other : ℕ) (l w : Place) (done : Bool) (said : Result (Unit {0}) ℕ) (a : After) {b₁ b₂ : List ℕ} → at ≡ record_at b p → other ≡ record_at b (byte b (at + 2)) → l ≡ link_place other → w ≡ w_place at
+      → (done ≡ (swapped_in (next size) b l w p).0) × (b₁ ≡ (swapped_in (next size) b l w p).1) → said ≡ told done (byte b₁ (at + 4)) → Follows said a → b₂ ≡ set b₁ at a.stage → Does (step p) b (Ok a.answer) b₂
+  step_there at other l w done said a {b₁} {b₂} here there l_is w_is swaps said_is follows stored =
       let l_there : l ≡ found = l_is ∙ ap link_place (there ∙ ap (record_at b) (prev_is at here)) in
       let w_there : w ≡ wanted = w_is ∙ ap w_place here in
       let mark : at + 4 ≡ wanted.pointer + 1 = omega arith in
       says_so a b₂
       (took a (stored ∙ ap (λ (i : ℕ). set b₁ i a.stage) here) done
       (swaps.0 ∙ ap₂ (λ (x y : Place). (swapped_in (next size) b x y p).0) l_there w_there, swaps.1 ∙ ap₂ (λ (x y : Place). (swapped_in (next size) b x y p).1) l_there w_there)
-      (subst (λ (i : ℕ). Follows done (byte b₁ i) a) mark follows))
+      (subst (λ (i : ℕ). Follows (told done (byte b₁ i)) a) mark (subst (λ (x : Result (Unit {0}) ℕ). Follows x a) said_is follows)))

@@ -10,17 +10,17 @@ use Rattle.stage.proofs.Around.{first_known}
 use Rattle.stage.specs.Answers.{answer_of, Reply}
 use Rattle.stage.specs.Calls.{step, refusing, rests}
 use Rattle.stage.specs.Turns.{from, around, first_that, next_after}
+use Rattle.stage.specs.declared.Answer.{Answer}
 use Rattle.stage.specs.declared.Event.TheVariants.{Nobody}
 use Rattle.stage.specs.declared.Private.{Private}
 use Rattle.layout.specs.Layout.{modules, record_at, private_at, read, byte}
 use Rattle.layout.proofs.Rewritten.{private_read}
 use Rattle.image.specs.declared.Frame.{Frame}
-use Rattle.image.specs.declared.Turned.{Turned}
-use Rattle.image.specs.declared.Next.{Next}
-use Rattle.image.specs.declared.Next.TheVariants as next
+use Rattle.stage.specs.declared.Refusal.{Refusal}
+use Rattle.stage.specs.declared.Refusal.TheVariants.{MarkerOutOfRange}
 use Rattle.image.specs.Call.{Does}
-use Rattle.image.specs.Inside.{Framed, IsNumber, given, unfound, first_able, Tells}
-use Rattle.image.specs.Turn.{Turn, refused, found, turn_of, moved, Gives, GivesTurn}
+use Rattle.image.specs.Inside.{Framed, IsNumber, given, unfound, first_able}
+use Rattle.image.specs.Turn.{Turn, refused, found, turn_of, Gives, GivesTurn}
 use Rattle.image.proofs.Refusals.{chosen, in_range}
 use Rattle.std.specs.Prelude.{Option, None, Some, Ok, Err}
 
@@ -84,38 +84,36 @@ module _ (b : List ℕ) (f : Frame) (m : ℕ) (framed : Framed b f) where
       (ap₂ (first_able b) (sym (add-one m)) (let z : modules b - m ≡ f.n + 1 - (m + 1) = omega (arith, framed.n_is) in z))
       (ap (first_able b 1) (let z : m ≡ m + 1 - 1 = omega arith in z))
 
-  pub is_after : (r : Next) (p : ℕ) → Tells after r → r ≡ next.Module p → Tells (next_after (read b) m) (next.Module p)
-  is_after r p tells e = next_is ∙ ap (λ (o : Option ℕ). or_else o before) (subst (Tells after) e tells)
+  pub is_after : (p : ℕ) → Some p ≡ after → Some p ≡ next_after (read b) m
+  is_after p e = ap (λ (o : Option ℕ). or_else o before) e ∙ sym next_is
 
-  pub is_before : (r r' : Next) → Tells after r → r ≡ next.Nobody → Tells before r' → Tells (next_after (read b) m) r'
-  is_before r r' tells e = subst⁻¹ (λ (o : Option ℕ). Tells o r') (next_is ∙ ap (λ (o : Option ℕ). or_else o before) (subst (Tells after) e tells))
-
-pub marked : (b : List ℕ) (q m : ℕ) (r : Reply) (b' : List ℕ) (m' : ℕ) → q ≡ m → GivesTurn b q r b' m' → GivesTurn b m r b' m'
-marked b q m r b' m' = subst (λ (k : ℕ). GivesTurn b k r b' m')
+  pub is_before : None ≡ after → before ≡ next_after (read b) m
+  is_before e = ap (λ (o : Option ℕ). or_else o before) e ∙ sym next_is
 
 -- a turn, by what was found
-module _ (b : List ℕ) (m : ℕ) where
-  pub no_turn : (k : ℕ) → given (unfound b m 10) ≡ Some k → GivesTurn b m (Err k) b m
-  unfolding turn_of unfound read
-  no_turn k g = subst⁻¹ (λ (t : Turn). Gives t b m (Err k) b m) (chosen refused (found (next_after (read b) m)) (unfound b m 10) (Some k) g) (refl, refl, refl)
+pub no_turn : (b : List ℕ) (m : ℕ) (k : Refusal) {r : Reply} → given (unfound b m MarkerOutOfRange) ≡ Some k → r ≡ Err k → GivesTurn b m r b m
+unfolding turn_of unfound read
+no_turn b m k {r} g e = subst⁻¹ (λ (t : Turn). Gives t b m r b m) (chosen refused (found (next_after (read b) m)) (unfound b m MarkerOutOfRange) (Some k) g) (e, refl, refl)
 
-  module _ (is : IsNumber b m) where
-    turn_is : (o : Option ℕ) → next_after (read b) m ≡ o → turn_of b m ≡ found o
-    unfolding turn_of refusing read
-    turn_is o e = let z : turn_of b m ≡ found (next_after (read b) m) = simp (is.0, in_range 1 (modules b) m is.1 is.2) in z ∙ ap found e
+module _ (b : List ℕ) (last m : ℕ) (known : IsNumber b last × (last ≡ m)) where
+  turn_is : (o : Option ℕ) → o ≡ next_after (read b) last → turn_of b m ≡ found o
+  unfolding turn_of refusing read
+  turn_is o e =
+      let is = known.0 in
+      let z : turn_of b last ≡ found (next_after (read b) last) = simp (is.0, in_range 1 (modules b) last is.1 is.2) in
+      subst (λ (k : ℕ). turn_of b k ≡ found o) known.1 (z ∙ ap found (sym e))
 
-    pub is_known : (r : Next) (p : ℕ) → Tells (next_after (read b) m) r → r ≡ next.Module p → IsNumber b p
-    unfolding next_after read
-    is_known r p tells e = let known = first_known (λ q. not (rests (read b) q)) (modules b) m is.2 p (subst (Tells (next_after (read b) m)) e tells) in (is.0, known.0, known.1)
+  pub is_known : (p : ℕ) → Some p ≡ next_after (read b) last → IsNumber b p
+  unfolding next_after read
+  is_known p e = let is = known.0 in let first = first_known (λ q. not (rests (read b) q)) (modules b) last is.2 p (sym e) in (is.0, first.0, first.1)
 
-    pub nobody_steps : (r : Next) → Tells (next_after (read b) m) r → r ≡ next.Nobody → GivesTurn b m (Ok (answer_of Nobody)) b m
-    nobody_steps r tells e =
-        subst⁻¹ (λ (t : Turn). Gives t b m (Ok (answer_of Nobody)) b m) (turn_is None (subst (Tells (next_after (read b) m)) e tells)) (refl, refl, refl)
+  pub nobody_steps : None ≡ next_after (read b) last → GivesTurn b m (Ok (answer_of Nobody)) b m
+  nobody_steps e = subst⁻¹ (λ (t : Turn). Gives t b m (Ok (answer_of Nobody)) b m) (turn_is None e) (refl, refl, refl)
 
-    pub steps : {r : Reply} {b' : List ℕ} (x : Turned) (n : Next) (p : ℕ) → Tells (next_after (read b) m) n → n ≡ next.Module p → Does (step p) b r b'
-        → (x.reply ≡ r) × (x.last ≡ moved p m r) → GivesTurn b m x.reply b' x.last
-    steps {r} {b'} x n p tells e does to =
-        subst⁻¹ (λ (t : Turn). Gives t b m x.reply b' x.last) (turn_is (Some p) (subst (Tells (next_after (read b) m)) e tells)) (
-          subst⁻¹ (λ (z : Reply). Does (step p) b z b') to.0 does,
-          to.1 ∙ ap (moved p m) (sym to.0),
-        )
+  -- with an answer the marker moves on, with a refusal it stays
+  pub moves_on : (p : ℕ) {m' : ℕ} (a : Answer) {b' : List ℕ} → Some p ≡ next_after (read b) last → Does (step p) b (Ok a) b' → m' ≡ p → GivesTurn b m (Ok a) b' m'
+  moves_on p {m'} a {b'} e does to = subst⁻¹ (λ (t : Turn). Gives t b m (Ok a) b' m') (turn_is (Some p) e) (does, to)
+
+  pub stays : (p : ℕ) (k : Refusal) {r : Reply} {b' : List ℕ} → Some p ≡ next_after (read b) last → Does (step p) b (Err k) b' → r ≡ Err k → GivesTurn b m r b' m
+  stays p k {r} {b'} e does says =
+      subst⁻¹ (λ (z : Reply). GivesTurn b m z b' m) says (subst⁻¹ (λ (t : Turn). Gives t b m (Err k) b' m) (turn_is (Some p) e) (does, refl))

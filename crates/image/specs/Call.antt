@@ -6,14 +6,15 @@ use Rattle.layout.specs.Layout.{length_for, read, put}
 use Rattle.soundness.specs.SoundImage.{sound}
 use Rattle.stage.specs.Answers.{Reply}
 use Rattle.stage.specs.declared.Refusal.{Refusal}
+use Rattle.stage.specs.declared.Refusal.TheVariants.{Unsound}
 
 -- "set-up buffer shorter than 16n + 268"
 abbrev pub fits : List ℕ → ℕ → Bool
 fits b k = leb (length_for k) (length b)
 
--- all that a call on the image b may be refused for, with the number given
+-- all that a call on the image b may be refused for, with the refusal given
 unfoldable pub refused : Call → List ℕ → List (Bool × Refusal)
-refused c b = (asks_sound c && not (sound b), 1) ∷ refusals (next size) (fits b) c (read b)
+refused c b = (asks_sound c && not (sound b), Unsound) ∷ refusals (next size) (fits b) c (read b)
 
 -- what a call on the image b says
 unfoldable pub reply : Call → List ℕ → Reply

@@ -1,26 +1,20 @@
 -- What the private functions of this crate say of what they hand one another. No public contract cites this file.
-use Rattle.std.specs.Prelude.{◌≡◌, Bool, true, cond, not, List, [], ◌∷◌, ℕ, ◌%◌, ◌≤◌, eqb, length, set, Option, None, Some, Ok, Err}
+use Rattle.std.specs.Prelude.{◌≡◌, Bool, true, not, List, [], ◌∷◌, ℕ, ◌≤◌, length, set, Option, Some, None, Result, Ok, Err}
 use Rattle.link.specs.Count as Count
 use Rattle.link.specs.Count.{size}
-use Rattle.stage.specs.Answers.{answer_of, Reply}
-use Rattle.stage.specs.Calls.{step, within, capacity, refusing, rests}
+use Rattle.stage.specs.Calls.{within, capacity, refusing, rests}
 use Rattle.stage.specs.Rows.{looks_at}
 use Rattle.stage.specs.Table.{step_of}
 use Rattle.stage.specs.Turns.{from, first_that}
-use Rattle.stage.specs.declared.Event.TheVariants.{Done, Waiting, Admitted, Joined, Left, Finished}
 use Rattle.layout.specs.Layout.{length_for, trailer_at, modules, log_at, first_at, record_at, held, read}
 use Rattle.layout.proofs.Stores.{puts}
 use Rattle.layout.proofs.Changes.{private_bytes, shared_bytes}
 use Rattle.soundness.specs.SoundImage.{sound}
-use Rattle.image.specs.Call.{Does}
 use Rattle.image.specs.declared.Frame.{Frame}
 use Rattle.image.specs.declared.Module.{Module}
-use Rattle.image.specs.declared.Found.{Found}
-use Rattle.image.specs.declared.Found.TheVariants as found
-use Rattle.image.specs.declared.Next.{Next}
-use Rattle.image.specs.declared.Next.TheVariants as next
 use Rattle.image.specs.declared.Looked.{Looked}
 use Rattle.stage.specs.declared.Refusal.{Refusal}
+use Rattle.stage.specs.declared.Refusal.TheVariants.{Unsound}
 
 -- where the parts of a sound image lie
 pub record Framed (b : List ℕ) (f : Frame) : Type 0 where
@@ -46,26 +40,22 @@ pub record IsModule (b : List ℕ) (m : Module) : Type 0 where
   pub at_is : m.at ≡ record_at b m.number
   pub me_is : m.me ≡ (read b).private m.number
 
--- the number that is given for a list of refusals, if one is
-unfoldable pub given : List (Bool × Refusal) → Option ℕ
+-- what is given for a list of refusals, if anything is
+unfoldable pub given : List (Bool × Refusal) → Option Refusal
 given es = refusing es Some None
 
--- the refusals of everything that names a module, `unknown` being the number for one that there is not
-unfoldable pub unfound : List ℕ → ℕ → ℕ → List (Bool × Refusal)
-unfound b p unknown = (not (sound b), 1) ∷ (not (within 1 (modules b) p), unknown) ∷ []
+-- the refusals of everything that names a module, `unknown` being the one for a number that is no module's
+unfoldable pub unfound : List ℕ → ℕ → Refusal → List (Bool × Refusal)
+unfound b p unknown = (not (sound b), Unsound) ∷ (not (within 1 (modules b) p), unknown) ∷ []
 
-abbrev pub Finds : List ℕ → ℕ → ℕ → Found → Type 0
-Finds b p unknown (found.Refused k) = given (unfound b p unknown) ≡ Some k
-Finds b p unknown (found.Number q) = IsNumber b q × (q ≡ p)
+-- what the search for a module comes to
+abbrev pub Finds : List ℕ → ℕ → Refusal → Result ℕ Refusal → Type 0
+Finds b p unknown (Err k) = given (unfound b p unknown) ≡ Some k
+Finds b p unknown (Ok q) = IsNumber b q × (q ≡ p)
 
 -- the first of k modules from p on that can step
 abbrev pub first_able : List ℕ → ℕ → ℕ → Option ℕ
 first_able b p k = first_that (λ q. not (rests (read b) q)) (from p k)
-
--- a module or none, as the code has it
-abbrev pub Tells : Option ℕ → Next → Type 0
-Tells o next.Nobody = o ≡ None
-Tells o (next.Module p) = o ≡ Some p
 
 -- a module's step, before it is stored
 pub record Looks (b : List ℕ) (m : Module) (l : Looked) : Type 0 where
@@ -79,17 +69,3 @@ pub record Looks (b : List ℕ) (m : Module) (l : Looked) : Type 0 where
 unfoldable pub parts_put : List ℕ → Module → Looked → List ℕ
 parts_put b m l =
     set (puts (puts b m.at (private_bytes l.stepped.me)) l.at (shared_bytes l.stepped.its)) m.frame.trailer l.stepped.lock
-
--- What the step of module p says, from one number: its answer's, or one that has its refusal's in the lower half of a byte.
-unfoldable pub replied : ℕ → ℕ → Reply
-replied p said =
-    cond (eqb said 0) (Ok (answer_of Done))
-    (cond (eqb said 1) (Ok (answer_of Waiting))
-    (cond (eqb said 2) (Ok (answer_of (Admitted p)))
-    (cond (eqb said 3) (Ok (answer_of Joined))
-    (cond (eqb said 4) (Ok (answer_of Left))
-    (cond (eqb said 5) (Ok (answer_of Finished))
-    (Err (said % 16)))))))
-
-abbrev pub Says : ℕ → List ℕ → ℕ → List ℕ → Type 0
-Says p b said b' = Does (step p) b (replied p said) b'

@@ -1,16 +1,18 @@
 -- A turn on an image, with the marker m. Document 02, R-2.
-use Rattle.std.specs.Prelude.{ℕ, ◌≡◌, not, List, [], ◌∷◌, Option, None, Some, Ok, Err}
+use Rattle.std.specs.Prelude.{ℕ, ◌≡◌, not, List, [], ◌∷◌, Option, Some, None, Ok, Err}
 use Rattle.stage.specs.Answers.{answer_of, Reply}
 use Rattle.stage.specs.Calls.{step, within, refusing}
 use Rattle.stage.specs.Turns.{next_after}
 use Rattle.stage.specs.declared.Event.TheVariants.{Nobody}
+use Rattle.stage.specs.declared.Refusal.{Refusal}
+use Rattle.stage.specs.declared.Refusal.TheVariants.{Unsound, MarkerOutOfRange}
 use Rattle.layout.specs.Layout.{read}
 use Rattle.soundness.specs.SoundImage.{sound}
 use Rattle.image.specs.Call.{Does}
 
--- what a turn comes to: it is refused by a number, it finds nobody, or it is a module's step
+-- what a turn comes to: it is refused, it finds nobody, or it is a module's step
 pub data Turn : Type 0 where
-  refused : ℕ → Turn
+  refused : Refusal → Turn
   nobody : Turn
   step_by : ℕ → Turn
 
@@ -20,7 +22,7 @@ found (Some p) = step_by p
 
 -- "Refusals: 10, marker not 1 to n, after 1."
 unfoldable pub turn_of : List ℕ → ℕ → Turn
-turn_of b m = refusing ((not (sound b), 1) ∷ (not (within 1 (read b).n m), 10) ∷ []) refused (found (next_after (read b) m))
+turn_of b m = refusing ((not (sound b), Unsound) ∷ (not (within 1 (read b).n m), MarkerOutOfRange) ∷ []) refused (found (next_after (read b) m))
 
 -- the marker, where the step of p says r: it is "moved on", but "where it is refused 5, so is the turn"
 abbrev pub moved : ℕ → ℕ → Reply → ℕ

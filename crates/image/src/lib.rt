@@ -4,7 +4,7 @@
 // reads the parts that it needs, and stores the bytes of the parts that it changes. A step at stage 9 swaps the links where they lie.
 #![tactic(auto)]
 
-ghost use Rattle.std.specs.Prelude.{◌≡◌, true, false, ◌&&◌, ◌||◌, ◌+◌, ◌-◌, ◌*◌, ◌^◌, ◌≤◌, ◌<◌, eqb, leb, length, set};
+ghost use Rattle.std.specs.Prelude.{◌≡◌, true, false, Ok, ◌&&◌, ◌||◌, ◌+◌, ◌-◌, ◌*◌, ◌/◌, ◌%◌, ◌^◌, ◌≤◌, ◌<◌, eqb, leb, length, set};
 ghost use Rattle.link.specs.Count.{next, size};
 ghost use Rattle.stage.specs.Calls as Calls;
 ghost use Rattle.stage.specs.Calls.{begin_acquisition, begin_release, admits, capacity};
@@ -15,17 +15,15 @@ ghost use Rattle.layout.proofs.Stores.{puts};
 ghost use Rattle.layout.proofs.Changes.{private_bytes, shared_bytes, length_bytes, w_place, link_place};
 ghost use Rattle.soundness.specs.SoundImage.{sound};
 ghost use Rattle.image.specs.Call.{Does, lock_word};
-ghost use Rattle.image.specs.Inside as Inside;
-ghost use Rattle.image.specs.Inside.{Framed, IsNumber, IsModule, Finds, first_able, Tells, Looks, parts_put, Says};
-ghost use Rattle.image.specs.Turn as Turn;
+ghost use Rattle.image.specs.Inside.{Framed, IsNumber, IsModule, Finds, first_able, Looks, parts_put};
 ghost use Rattle.image.specs.Turn.{GivesTurn};
 
 use inplace::Place;
 use link::Link;
-use stage::{Answer, Event, Private, Reply, Shared, Stepped};
+use stage::{Answer, Event, Private, Refusal, Reply, Shared, Stepped};
 
 // Where the parts of a sound image lie: its n, the places of record 1, of the log and of the trailer, and how many entries are held.
-#[derive(Clone, Copy)]
+#[derive(Clone, Copy, Debug, PartialEq, Eq)]
 struct Frame {
     n: u16,
     first: usize,
@@ -35,7 +33,7 @@ struct Frame {
 }
 
 // A module of a sound image: the place of its record, and its private part.
-#[derive(Clone, Copy)]
+#[derive(Clone, Copy, Debug, PartialEq, Eq)]
 struct Module {
     frame: Frame,
     number: u8,
@@ -43,51 +41,25 @@ struct Module {
     me: Private,
 }
 
-// What the search for a module comes to: a refusal or the module, each by its number.
-#[derive(Clone, Copy)]
-enum Found {
-    Refused(u8),
-    Number(u8),
-}
-
-// Whose turn is next.
-#[derive(Clone, Copy)]
-enum Next {
-    Nobody,
-    Module(u8),
-}
-
-// What a step or a turn says, and the marker after it.
-#[derive(Clone, Copy)]
-pub struct Turned {
-    pub reply: Reply,
-    pub last: u32,
-}
-
-// What a step says is handed up as one number (`replied` reads it): its answer's or, in the lower half of a byte, its refusal's. A reply would
-// go through memory.
-const REFUSED: u8 = 16;
-
 // A step, before it is stored: the place of the record that it looks at, and what it leaves.
-#[derive(Clone, Copy)]
+#[derive(Clone, Copy, Debug, PartialEq, Eq)]
 struct Looked {
     at: usize,
     stepped: Stepped,
 }
 
-// A byte as a wider number.
-fn wide(x: u8) -> u16
-    ensures { (result ≡ x) × (result < 256) }
-{
-    x as u16
-}
+// The greatest priority that an acquisition may begin with, and the stage of a module that is inside. They have names so that the tests by
+// them keep the names of their goals in a wrong program.
+const GREATEST: u32 = 254;
+
+const INSIDE: u8 = 13;
 
 // The number of two bytes at a place.
 fn two_at(image: &[u8], at: usize) -> u16
     requires { at + 2 ≤ length image.now }
     ensures { result ≡ two image.now at }
 {
-    256 * wide(image[at]) + wide(image[at + 1])
+    u16::from_be_bytes([image[at], image[at + 1]])
 }
 
 // Where the parts of this image lie.
@@ -99,7 +71,7 @@ fn frame_of(image: &[u8]) -> Frame
     let n = two_at(image, trailer + 2);
     Frame {
         n,
-        first: image.len() - (16 * (n as usize) + 268),
+        first: image.len() - (16 * usize::from(n) + 268),
         log: image.len() - 268,
         trailer,
         held: two_at(image, trailer + 4),
@@ -140,6 +112,16 @@ fn shared_at(image: &[u8], at: usize) -> Shared
     }
 }
 
+// Stores a number in two bytes from a place on.
+fn put_two(image: &mut [u8], at: usize, k: u16)
+    requires { at + 2 ≤ length image.old }
+    ensures { image.new ≡ set (set image.old at (k / 256)) (at + 1) (k % 256) }
+{
+    let [high, low] = k.to_be_bytes();
+    image[at] = high;
+    image[at + 1] = low;
+}
+
 // Stores a private part in the record at a place.
 fn put_private(image: &mut [u8], at: usize, me: Private)
     requires { at + 16 ≤ length image.old }
@@ -150,8 +132,7 @@ fn put_private(image: &mut [u8], at: usize, me: Private)
     image[at + 2] = me.prev;
     image[at + 3] = me.w.pointer;
     image[at + 4] = me.w.mark;
-    image[at + 6] = (me.w.count / 256) as u8;
-    image[at + 7] = (me.w.count % 256) as u8;
+    put_two(image, at + 6, me.w.count);
     image[at + 14] = me.s;
 }
 
@@ -162,8 +143,7 @@ fn put_shared(image: &mut [u8], at: usize, its: Shared)
 {
     image[at + 8] = its.link.pointer;
     image[at + 9] = its.link.mark;
-    image[at + 10] = (its.link.count / 256) as u8;
-    image[at + 11] = (its.link.count % 256) as u8;
+    put_two(image, at + 10, its.link.count);
     image[at + 12] = its.priority;
     image[at + 13] = its.locked;
 }
@@ -173,8 +153,7 @@ fn put_length(image: &mut [u8], at: usize, k: u16)
     requires { at + 12 ≤ length image.old }
     ensures { image.new ≡ puts image.old at (length_bytes k) }
 {
-    image[at + 4] = (k / 256) as u8;
-    image[at + 5] = (k % 256) as u8;
+    put_two(image, at + 4, k);
 }
 
 // Where w lies in the record at a place.
@@ -204,36 +183,32 @@ fn place(first: usize, p: u8) -> usize
     requires { (1 ≤ p) × (first + 16 * p < 2 ^ 64) }
     ensures { result ≡ first + 16 * (p - 1) }
 {
-    first + 16 * (p as usize - 1)
+    first + 16 * (usize::from(p) - 1)
 }
 
 // The module that is named, or the refusal of an unsound image, or `unknown` for a number that is no module's.
 #[tactic(auto, using(crate::proofs::Refusals::no_module, crate::proofs::Refusals::too_low, crate::proofs::Refusals::too_high, laws::proofs::Said::said))]
-fn find(image: &[u8], p: u32, unknown: u8) -> Found
+fn find(image: &[u8], p: u32, unknown: Refusal) -> Result<u8, Refusal>
     ensures { Finds image.now p unknown result }
 {
     if !soundness::sound(image) {
-        return Found::Refused(1);
+        return Err(Refusal::Unsound);
     }
     let n = frame_of(image).n;
     if p < 1 {
-        return Found::Refused(unknown);
+        return Err(unknown);
     }
-    if (n as u32) < p {
-        return Found::Refused(unknown);
+    if u32::from(n) < p {
+        return Err(unknown);
     }
-    Found::Number(p as u8)
+    Ok(p as u8)
 }
 
 // Whether a module at a stage has no step to take: it is idle or inside.
 fn rests(stage: u8) -> bool
     ensures { result ≡ (eqb stage 0 || eqb stage 13) }
 {
-    match stage {
-        0 => true,
-        13 => true,
-        _ => false,
-    }
+    stage == 0 || stage == INSIDE
 }
 
 // The module of a number.
@@ -279,7 +254,7 @@ fn admit(image: &mut [u8], frame: Frame, p: u8)
     requires { (frame.log + frame.held < length image.old) × (frame.trailer + 12 ≤ length image.old) × (frame.held < capacity) }
     ensures { image.new ≡ puts (set image.old (frame.log + frame.held) p) frame.trailer (length_bytes (frame.held + 1)) }
 {
-    let at = frame.log + frame.held as usize;
+    let at = frame.log + usize::from(frame.held);
     image[at] = p;
     put_length(image, frame.trailer, frame.held + 1);
 }
@@ -303,20 +278,11 @@ fn store(image: &mut [u8], m: Module, l: Looked)
     ensures { image.new ≡ put (after_step (next size) (read image.old) m.number) image.old }
 {
     put_parts(image, m, l);
-    let s = l.stepped;
-    let answer = s.answer;
-    let event = answer.event;
-    match event {
+    match l.stepped.answer.event {
         Event::Admitted(p) => admit(image, m.frame, p),
         _ => {}
     }
 }
-
-// The greatest priority that an acquisition may begin with, and the stage of a module that is inside. They have names so that the tests by
-// them keep the names of their goals in a wrong program.
-const GREATEST: u32 = 254;
-
-const INSIDE: u8 = 13;
 
 // Begins an acquisition by a module that was found.
 fn begin_acquisition_of(image: &mut [u8], m: Module, priority: u32) -> Reply
@@ -324,20 +290,20 @@ fn begin_acquisition_of(image: &mut [u8], m: Module, priority: u32) -> Reply
     ensures { Does (begin_acquisition m.number priority) image.old result image.new }
 {
     if priority < 1 {
-        return Reply::Refused(3);
+        return Err(Refusal::PriorityOutOfRange);
     }
     if GREATEST < priority {
-        return Reply::Refused(3);
+        return Err(Refusal::PriorityOutOfRange);
     }
     let stage = m.me.stage;
     if stage != 0 {
-        return Reply::Refused(4);
+        return Err(Refusal::WrongStage);
     }
     let own = priority as u8;
     let its = shared_at(image, m.at);
     put_private(image, m.at, stage::begun_acquisition(m.me, own));
     put_shared(image, m.at, stage::with_priority(its, own));
-    Reply::Answered(Answer::DONE)
+    Ok(Answer::DONE)
 }
 
 // Begins a release by a module that was found.
@@ -347,130 +313,82 @@ fn begin_release_of(image: &mut [u8], m: Module) -> Reply
 {
     let stage = m.me.stage;
     if stage != INSIDE {
-        return Reply::Refused(4);
+        return Err(Refusal::WrongStage);
     }
     put_private(image, m.at, stage::begun_release(m.me));
-    Reply::Answered(Answer::DONE)
+    Ok(Answer::DONE)
 }
 
 // A step at stage 9, with no part copied out: a swap of prev's link and w where they lie, and then the stage.
-fn swap_of(image: &mut [u8], number: u8) -> u8
+fn swap_of(image: &mut [u8], number: u8) -> Answer
     requires { IsNumber image.old number × (byte image.old (record_at image.old number) ≡ 9) }
-    ensures { Says number image.old result image.new }
+    ensures { Does (Calls.step number) image.old (Ok result) image.new }
 {
     let first = frame_of(image).first;
     let at = place(first, number);
     let its = link_of(place(first, image[at + 2]));
     let done = its.swap(image, w_of(at), number);
-    let after = row::after_swap(done, image[at + 4]);
+    let swapped = if done { Ok(()) } else { Err(image[at + 4]) };
+    let after = row::after_swap(swapped);
     image[at] = after.stage;
-    let told = after.answer;
-    told.number
+    after.answer
 }
 
 // A step at any other stage: its row by value.
-fn row_of(image: &mut [u8], number: u8) -> u8
+fn row_of(image: &mut [u8], number: u8) -> Reply
     requires { IsNumber image.old number × (Calls.rests (read image.old) number ≡ false) }
-    ensures { Says number image.old result image.new }
+    ensures { Does (Calls.step number) image.old result image.new }
 {
     let m = module_of(image, number);
     let l = look(image, m);
-    let s = l.stepped;
-    let answer = s.answer;
-    let event = answer.event;
-    if overfills(event, m.frame.held) {
-        return REFUSED + 5;
+    let answer = l.stepped.answer;
+    if overfills(answer.event, m.frame.held) {
+        return Err(Refusal::LogFull);
     }
     store(image, m, l);
-    answer.number
+    Ok(answer)
 }
 
 // One step of a module that was found. Two functions call it, so the compiler keeps it apart, and its frame stands beside that of the check.
-fn step_of(image: &mut [u8], number: u8) -> u8
+fn step_of(image: &mut [u8], number: u8) -> Reply
     requires { IsNumber image.old number }
-    ensures { Says number image.old result image.new }
+    ensures { Does (Calls.step number) image.old result image.new }
 {
     let at = place(frame_of(image).first, number);
     let stage = image[at];
     if rests(stage) {
-        return REFUSED + 4;
+        return Err(Refusal::WrongStage);
     }
     if stage == row::SWAP {
-        return swap_of(image, number);
+        return Ok(swap_of(image, number));
     }
     row_of(image, number)
 }
 
-// What a module's step says, read out of its one number.
-fn replied(number: u8, said: u8) -> Reply
-    ensures { result ≡ Inside.replied number said }
-{
-    match said {
-        0 => Reply::Answered(Answer::DONE),
-        1 => Reply::Answered(Answer::WAITING),
-        2 => Reply::Answered(Answer::admitted(number)),
-        3 => Reply::Answered(Answer::JOINED),
-        4 => Reply::Answered(Answer::LEFT),
-        5 => Reply::Answered(Answer::FINISHED),
-        _ => Reply::Refused(said % 16),
-    }
-}
-
 // The first of the modules from p to the one before `end` that can step.
-fn first_able(image: &[u8], frame: Frame, p: u8, end: u8) -> Next
+fn first_able(image: &[u8], frame: Frame, p: u8, end: u8) -> Option<u8>
     requires framed { Framed image.now frame }
     requires ordered { (1 ≤ p) × (p ≤ end) × (end ≤ frame.n + 1) }
-    ensures { Tells (first_able image.now p (end - p)) result }
+    ensures { result ≡ first_able image.now p (end - p) }
 {
-    let mut q = p;
-    while q < end {
+    for q in p..end {
         let at = place(frame.first, q);
         if !rests(image[at]) {
-            return Next::Module(q);
+            return Some(q);
         }
-        q += 1;
     }
-    Next::Nobody
+    None
 }
 
 // The module whose turn is next after the last one.
-fn next_after(image: &[u8], last: u8) -> Next
+fn next_after(image: &[u8], last: u8) -> Option<u8>
     requires { IsNumber image.now last }
-    ensures { Tells (next_after (read image.now) last) result }
+    ensures { result ≡ next_after (read image.now) last }
 {
     let frame = frame_of(image);
-    let after = first_able(image, frame, last + 1, frame.n as u8 + 1);
-    match after {
-        Next::Module(p) => Next::Module(p),
-        Next::Nobody => first_able(image, frame, 1, last + 1),
-    }
-}
-
-// The marker after the step of p, by what the step says.
-fn moved(p: u8, last: u32, reply: Reply) -> Turned
-    ensures { (result.reply ≡ reply) × (result.last ≡ Turn.moved p last reply) }
-{
-    match reply {
-        Reply::Refused(_) => Turned { reply, last },
-        Reply::Answered(_) => Turned {
-            reply,
-            last: p as u32,
-        },
-    }
-}
-
-// A turn where the marker names a module.
-fn turn_after(image: &mut [u8], last: u8) -> Turned
-    requires { IsNumber image.old last }
-    ensures { GivesTurn image.old last result.reply image.new result.last }
-{
-    let next = next_after(image, last);
-    match next {
-        Next::Nobody => Turned {
-            reply: Reply::Answered(Answer::NOBODY),
-            last: last as u32,
-        },
-        Next::Module(p) => moved(p, last as u32, replied(p, step_of(image, p))),
+    match first_able(image, frame, last + 1, frame.n as u8 + 1) {
+        Some(p) => Some(p),
+        None => first_able(image, frame, 1, last + 1),
     }
 }
 
@@ -489,51 +407,37 @@ pub fn lock_word(image: &[u8]) -> u8
 pub fn begin_acquisition(image: &mut [u8], p: u32, priority: u32) -> Reply
     ensures { Does (begin_acquisition p priority) image.old result image.new }
 {
-    let found = find(image, p, 2);
-    match found {
-        Found::Refused(k) => Reply::Refused(k),
-        Found::Number(number) => {
-            let m = module_of(image, number);
-            begin_acquisition_of(image, m, priority)
-        }
-    }
+    let number = find(image, p, Refusal::NoSuchModule)?;
+    let m = module_of(image, number);
+    begin_acquisition_of(image, m, priority)
 }
 
 // Begins a release by the module p.
 pub fn begin_release(image: &mut [u8], p: u32) -> Reply
     ensures { Does (begin_release p) image.old result image.new }
 {
-    let found = find(image, p, 2);
-    match found {
-        Found::Refused(k) => Reply::Refused(k),
-        Found::Number(number) => {
-            let m = module_of(image, number);
-            begin_release_of(image, m)
-        }
-    }
+    let number = find(image, p, Refusal::NoSuchModule)?;
+    let m = module_of(image, number);
+    begin_release_of(image, m)
 }
 
 // One step of the module p.
 pub fn step(image: &mut [u8], p: u32) -> Reply
     ensures { Does (Calls.step p) image.old result image.new }
 {
-    let found = find(image, p, 2);
-    match found {
-        Found::Refused(k) => Reply::Refused(k),
-        Found::Number(number) => replied(number, step_of(image, number)),
-    }
+    let number = find(image, p, Refusal::NoSuchModule)?;
+    step_of(image, number)
 }
 
-// Hands out a turn: the module after the last one served takes a step. By value: the marker goes in as a number and comes back.
-pub fn turn(image: &mut [u8], last: u32) -> Turned
-    ensures { GivesTurn image.old last result.reply image.new result.last }
+// Hands out a turn: the module after the last one served takes a step, and the marker, which is lent, moves on to it.
+pub fn turn(image: &mut [u8], marker: &mut u32) -> Reply
+    ensures { GivesTurn image.old marker.old result image.new marker.new }
 {
-    let found = find(image, last, 10);
-    match found {
-        Found::Refused(k) => Turned {
-            reply: Reply::Refused(k),
-            last,
-        },
-        Found::Number(number) => turn_after(image, number),
-    }
+    let last = find(image, *marker, Refusal::MarkerOutOfRange)?;
+    let Some(p) = next_after(image, last) else {
+        return Ok(Answer::NOBODY);
+    };
+    let answer = step_of(image, p)?;
+    *marker = u32::from(p);
+    Ok(answer)
 }

@@ -3,13 +3,11 @@
 use mathlib.Core.Path.{◌≡◌, ◌∙◌, ap, sym}
 use native.Mathlib.Omega.{arith}
 use Rattle.layout.specs.Layout.{byte, record_at}
-use Rattle.image.specs.Inside.{replied}
 use Rattle.image.proofs.Named.{no_step}
 use Rattle.image.proofs.Turns.{rests_at}
 use Rattle.image.proofs.step_of.Goals as goal
 
 pub returns-then-rests : goal.returns-then-rests
-unfolding replied
 returns-then-rests c =
     no_step _ _ c.requires (rests_at _ _ _ _ c.frame_of.ensures c.requires.1 (omega (arith, c.frame_of.ensures.n_is, c.requires.2)) c.place-at.ensures ∙ sym c.rests.ensures ∙ c.if-rests.true)
 

@@ -2,6 +2,7 @@
 -- Assumes nothing.
 use mathlib.Core.Path.{refl}
 use native.Mathlib.Omega.{arith}
+use Rattle.std.proofs.Common.{rules}
 use Rattle.image.proofs.Swapping.{prev_read, step_there}
 use Rattle.image.proofs.swap_of.Goals as goal
 
@@ -20,6 +21,6 @@ link_of-its-requires c =
 pub returns : goal.returns
 returns c =
     let frame = c.frame_of-first.ensures in
-    step_there _ _ c.requires.0 c.requires.1 (λ i. (c.slice_known-2-1.given i).fits) c.place-at.result c.place.result _ _ _ _
+    step_there _ _ c.requires.0 c.requires.1 (λ i. (c.slice_known-2-1.given i).fits) c.place-at.result c.place.result _ _ _ _ _
     (omega (arith, frame.first_is, c.place-at.ensures)) (omega (arith, frame.first_is, c.place.ensures)) c.link_of-its.ensures c.w_of.ensures
-    c.swap-done.ensures c.after_swap-after.ensures refl
+    c.swap-done.ensures (search rules) c.after_swap-after.ensures refl

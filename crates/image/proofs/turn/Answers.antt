@@ -1,16 +1,20 @@
--- `turn` refuses what `find` refuses, with 10 for a marker that names no module, and is `turn_after` for the marker.
+-- `turn` refuses what `find` refuses; past that it is the step of the module whose turn is next, and moves the marker on where it is accepted.
 -- Assumes nothing.
-use Rattle.image.proofs.Modules.{was_refused, was_found, is_named}
-use Rattle.image.proofs.Turns.{no_turn, marked}
+use Rattle.std.proofs.Common.{rules}
+use Rattle.image.proofs.Turns.{no_turn, nobody_steps, is_known, moves_on, stays}
 use Rattle.image.proofs.turn.Goals as goal
 
-pub turn_after-requires : goal.turn_after-requires
-turn_after-requires c = was_found _ _ _ _ c.find-found.ensures _ c.in-Number.is
+pub returns-in_err-last : goal.returns-in_err-last
+returns-in_err-last c = no_turn _ _ _ c.in_err-last.ensures (search rules)
 
-pub returns-in-Refused : goal.returns-in-Refused
-returns-in-Refused c = no_turn _ _ _ (was_refused _ _ _ _ c.find-found.ensures _ c.in-Refused.is)
+pub returns-in_default : goal.returns-in_default
+returns-in_default c = nobody_steps _ _ _ c.in_ok-last.ensures c.in_default.ensures
 
-pub returns-in-Number : goal.returns-in-Number
-returns-in-Number c =
-    marked _ _ _ _ _ _
-    (is_named _ _ _ _ c.find-found.ensures _ c.in-Number.is) c.turn_after.ensures
+pub step_of-requires : goal.step_of-requires
+step_of-requires c = is_known _ _ _ c.in_ok-last.ensures _ c.in-Some.ensures
+
+pub returns-in_err-answer : goal.returns-in_err-answer
+returns-in_err-answer c = stays _ _ _ c.in_ok-last.ensures _ _ c.in-Some.ensures c.in_err-answer.ensures (search rules)
+
+pub returns : goal.returns
+returns c = moves_on _ _ _ c.in_ok-last.ensures _ _ c.in-Some.ensures c.in_ok-answer.ensures c.from.ensures
