@@ -3,25 +3,16 @@
 use mathlib.Core.Path.{◌≡◌, sym, ap, ◌∙◌}
 use mathlib.Core.List.{List}
 use Prim.Native.Nat.{ℕ, ◌+◌, ◌*◌}
-use Rattle.stage.specs.Answers.{module_admitted, length_taken, Reply}
+use Rattle.stage.specs.Answers.{refusal_number, module_admitted, length_taken, Reply}
 use Rattle.stage.specs.Calls.{Call}
 use Rattle.stage.specs.declared.Answer.{Answer}
+use Rattle.stage.specs.declared.Refusal.{Refusal}
 use Rattle.image.specs.Call.{Does}
 use Rattle.desk.specs.Packed.{top, packed, Exports}
 use Rattle.std.specs.Prelude.{Ok, Err}
 
 pub said : (c : Call) (b : List ℕ) (r : Reply) (b' : List ℕ) (x : ℕ) → Does c b r b' → x ≡ packed r → Exports c b x b'
 said c b r b' x does same = record { says = same ∙ ap packed does.says; leaves = does.leaves }
-
-pub refusal : (r : Reply) (k : ℕ) → r ≡ Err k → top + k ≡ packed r
-unfolding packed
-refusal r k is = sym (ap packed is)
-
-pub answer : (r : Reply) (a : Answer) (p k : ℕ) → r ≡ Ok a → p ≡ module_admitted a.event → k ≡ length_taken a.event
-    → a.number + 256 * p + 65536 * k ≡ packed r
-unfolding packed
-answer r a p k is module_is length =
-    ap (λ (z : ℕ). a.number + 256 * z + 65536 * k) module_is ∙ ap (λ (z : ℕ). a.number + 256 * module_admitted a.event + 65536 * z) length ∙ sym (ap packed is)
 
 -- A contract of an exported call leaves nothing open: any two outcomes that it admits are the same.
 pub one_outcome : (c : Call) (b : List ℕ) {x x' : ℕ} {b₁ b₂ : List ℕ} → Exports c b x b₁ → Exports c b x' b₂ → (x ≡ x') × (b₁ ≡ b₂)

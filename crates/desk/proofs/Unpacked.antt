@@ -17,6 +17,8 @@ use Rattle.stage.specs.Table.{step_of}
 use Rattle.stage.specs.declared.Answer.{Answer}
 use Rattle.stage.specs.declared.Event.{Event}
 use Rattle.stage.specs.declared.Event.TheVariants.{Done, Waiting, Admitted, Joined, Left, Finished, Taken, Nobody}
+use Rattle.stage.specs.declared.Refusal.{Refusal}
+use Rattle.stage.specs.declared.Refusal.TheVariants.{Unsound, NoSuchModule, PriorityOutOfRange, WrongStage, LogFull, LogBufferTooShort, ModulesOutOfRange, BufferTooShort, Malformed, MarkerOutOfRange}
 use Rattle.stage.proofs.Events.{Of, agrees}
 use Rattle.stage.proofs.Refusing.{Unrefused, refused_or, is_within}
 use Rattle.layout.specs.Layout.{read}
@@ -24,16 +26,25 @@ use Rattle.image.specs.Call.{refused, reply}
 use Rattle.image.specs.Turn as T
 use Rattle.image.specs.Turn.{Turn, nobody, step_by, turn_of, Gives}
 use Rattle.image.proofs.Sound.{table}
-use Rattle.desk.specs.Packed.{top, packed, takes, event_of, unpacked, LosesNothing, TurnsToo}
+use Rattle.desk.specs.Packed.{top, packed, takes, event_of, refusal_of, unpacked, LosesNothing, TurnsToo}
 use Rattle.std.specs.Prelude.{Ok, Err}
 
 -- what is said comes back
 abbrev Back : Bool → Reply → Type 0
 Back log r = unpacked log (packed r) ≡ r
 
-refusal : (log : Bool) (k : ℕ) → Back log (Err k)
-unfolding packed unpacked
-refusal log k = simp (le-leb top (top + k) (omega arith), add-sub_cancel_left top k)
+refusal : (log : Bool) (k : Refusal) → Back log (Err k)
+unfolding packed unpacked refusal_of
+refusal log Unsound = refl
+refusal log NoSuchModule = refl
+refusal log PriorityOutOfRange = refl
+refusal log WrongStage = refl
+refusal log LogFull = refl
+refusal log LogBufferTooShort = refl
+refusal log ModulesOutOfRange = refl
+refusal log BufferTooShort = refl
+refusal log Malformed = refl
+refusal log MarkerOutOfRange = refl
 
 -- what is read of an admission's number, and of a taken log's
 admission : (p : ℕ) → p ≤ 64 → Back false (Ok (answer_of (Admitted p)))

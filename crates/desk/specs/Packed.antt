@@ -1,10 +1,12 @@
 -- What a call says, as one number for other languages. Document 01, "What a call says": "The answer carries what happened and, for an admission,
 -- which module", "Taking the log answers 0 and its length", and a refusal "returns that number alone".
 use Rattle.std.specs.Prelude.{ℕ, ◌+◌, ◌-◌, ◌*◌, ◌/◌, ◌%◌, ◌≡◌, Bool, true, false, cond, List, eqb, leb, Ok, Err}
-use Rattle.stage.specs.Answers.{module_admitted, length_taken, Reply}
+use Rattle.stage.specs.Answers.{module_admitted, length_taken, refusal_number, Reply}
 use Rattle.stage.specs.Calls.{Call, set_up, begin_acquisition, begin_release, step, take_log}
 use Rattle.stage.specs.declared.Event.{Event}
 use Rattle.stage.specs.declared.Event.TheVariants.{Done, Waiting, Admitted, Joined, Left, Finished, Taken, Nobody}
+use Rattle.stage.specs.declared.Refusal.{Refusal}
+use Rattle.stage.specs.declared.Refusal.TheVariants.{Unsound, NoSuchModule, PriorityOutOfRange, WrongStage, LogFull, LogBufferTooShort, ModulesOutOfRange, BufferTooShort, Malformed, MarkerOutOfRange}
 use Rattle.image.specs.Call.{reply, image}
 use Rattle.image.specs.Turn.{GivesTurn}
 
@@ -15,7 +17,7 @@ top = 2147483648
 -- A refusal sets the top bit and gives its number alone. An answer gives its number in the lowest byte, the admitted module in the next, and
 -- the length of the log taken in the upper half.
 unfoldable pub packed : Reply → ℕ
-packed (Err k) = top + k
+packed (Err k) = top + refusal_number k
 packed (Ok a) = a.number + 256 * module_admitted a.event + 65536 * length_taken a.event
 
 -- what every contract of an exported call says: from the image b the call c answers r and leaves the image b'
@@ -53,11 +55,25 @@ event_of false number p k =
     (cond (eqb number 5) Finished
     Nobody)))))
 
+-- the refusal of a number; no call gives another than these
+unfoldable pub refusal_of : ℕ → Refusal
+refusal_of k =
+    cond (eqb k 1) Unsound
+    (cond (eqb k 2) NoSuchModule
+    (cond (eqb k 3) PriorityOutOfRange
+    (cond (eqb k 4) WrongStage
+    (cond (eqb k 5) LogFull
+    (cond (eqb k 6) LogBufferTooShort
+    (cond (eqb k 7) ModulesOutOfRange
+    (cond (eqb k 8) BufferTooShort
+    (cond (eqb k 9) Malformed
+    MarkerOutOfRange))))))))
+
 -- what a caller reads out of the number
 unfoldable pub unpacked : Bool → ℕ → Reply
 unpacked log x =
     cond (leb top x)
-    (Err (x - top))
+    (Err (refusal_of (x - top)))
     (Ok (record { number = x % 256; event = event_of log (x % 256) (x / 256 % 256) (x / 65536) }))
 
 -- What is proved of it: the packing loses nothing of what a call says on any image.

@@ -18,24 +18,18 @@ pub struct Marker {
     pub last: u32,
 }
 
-// What a step or a turn says, as one number, and the marker after it.
-#[derive(Clone, Copy)]
-struct Told {
-    said: u32,
-    last: u32,
-}
-
 // What a call says, as one number.
+#[tactic(auto, unfolding(crate::specs::Packed::packed))]
 fn packed(reply: Reply) -> u32
     ensures { result ≡ Packed.packed reply }
 {
     match reply {
-        Reply::Refused(k) => 2147483648 + (k as u32),
-        Reply::Answered(a) => {
-            let event = a.event;
-            (a.number as u32)
-                + 256 * (stage::module_admitted(event) as u32)
-                + 65536 * (stage::length_taken(event) as u32)
+        Err(refusal) => 2147483648 + u32::from(refusal.number()),
+        Ok(answer) => {
+            let event = answer.event;
+            u32::from(answer.number)
+                + 256 * u32::from(event.admission().unwrap_or(0))
+                + 65536 * u32::from(event.log_length().unwrap_or(0))
         }
     }
 }
@@ -81,24 +75,10 @@ pub extern "C" fn mokroshel_take_log(image: &mut [u8], log: &mut [u8]) -> u32
     packed(whole::take_log(image, log))
 }
 
-// A turn, by value.
-fn turned(image: &mut [u8], last: u32) -> Told
-    ensures { ExportsTurn image.old last result.said image.new result.last }
-{
-    let t = image::turn(image, last);
-    let reply = t.reply;
-    Told {
-        said: packed(reply),
-        last: t.last,
-    }
-}
-
 // Hands out a turn, and moves the marker on in place.
 #[unsafe(no_mangle)]
 pub extern "C" fn mokroshel_turn(image: &mut [u8], marker: &mut Marker) -> u32
     ensures { ExportsTurn image.old marker.old.last result image.new marker.new.last }
 {
-    let t = turned(image, marker.last);
-    marker.last = t.last;
-    t.said
+    packed(image::turn(image, &mut marker.last))
 }

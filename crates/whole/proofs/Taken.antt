@@ -21,6 +21,7 @@ use Rattle.image.specs.Call.{refused, buffer, Does}
 use Rattle.image.specs.Inside.{given}
 use Rattle.image.proofs.Refusals.{chosen, refuses, accepts}
 use Rattle.image.proofs.Sound.{written}
+use Rattle.stage.specs.declared.Refusal.{Refusal}
 use Rattle.stage.specs.declared.Refusal.TheVariants.{LogBufferTooShort, Unsound}
 use Rattle.std.specs.Prelude.{None, Some, Ok, Err}
 
@@ -45,27 +46,27 @@ module _ (b : List ℕ) (is : sound b ≡ true) (k : ℕ) (k_is : k ≡ held b) 
       same ∙ ap₂ (λ (x : List ℕ) (j : ℕ). x ++ drop j lent) log count
 
 module _ (b lent : List ℕ) where
-  asks : refused (take_log (length lent)) b ≡ (not (sound b), 1) ∷ (ltb (length lent) (length (read b).log), 6) ∷ []
+  asks : refused (take_log (length lent)) b ≡ (not (sound b), Unsound) ∷ (ltb (length lent) (length (read b).log), LogBufferTooShort) ∷ []
   unfolding refused refusals
   asks = refl
 
   -- both buffers keep all their bytes
-  refused_both : (k : ℕ) → given (refused (take_log (length lent)) b) ≡ Some k → Does (take_log (length lent)) b (Err k) b × (lent ≡ buffer b lent)
+  refused_both : (k : Refusal) → given (refused (take_log (length lent)) b) ≡ Some k → Does (take_log (length lent)) b (Err k) b × (lent ≡ buffer b lent)
   unfolding buffer
   refused_both k g = (refuses (take_log (length lent)) b k g, sym (chosen (λ j. lent) _ (refused (take_log (length lent)) b) (Some k) g))
 
   pub untaken : sound b ≡ false → Does (take_log (length lent)) b (Err Unsound) b × (lent ≡ buffer b lent)
   unfolding given refusing
-  untaken no_b = refused_both 1 (ap given asks ∙ simp no_b)
+  untaken no_b = refused_both Unsound (ap given asks ∙ simp no_b)
 
   module _ (is : sound b ≡ true) (k : ℕ) (k_is : k ≡ held b) where
-    given_is : (t : Bool) → ltb (length lent) k ≡ t → given (refused (take_log (length lent)) b) ≡ given ((t, 6) ∷ [])
+    given_is : (t : Bool) → ltb (length lent) k ≡ t → given (refused (take_log (length lent)) b) ≡ given ((t, LogBufferTooShort) ∷ [])
     unfolding given refusing
     given_is t e = ap given asks ∙ simp (is, entries b is k k_is, e)
 
     pub short : length lent < k → Does (take_log (length lent)) b (Err LogBufferTooShort) b × (lent ≡ buffer b lent)
     unfolding given refusing
-    short h = refused_both 6 (given_is true (lt-ltb _ _ h))
+    short h = refused_both LogBufferTooShort (given_is true (lt-ltb _ _ h))
 
     pub takes : {b' lent' : List ℕ} (a : Answer) → k ≤ length lent → a ≡ answer_of (Taken k) → b' ≡ put (log_taken (read b)) b → lent' ≡ (read b).log ++ drop (length (read b).log) lent →
         Does (take_log (length lent)) b (Ok a) b' × (lent' ≡ buffer b lent)

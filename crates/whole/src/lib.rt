@@ -14,7 +14,7 @@ ghost use Rattle.soundness.specs.SoundImage.{sound};
 ghost use Rattle.image.specs.Call.{Does, buffer};
 
 use link::Link;
-use stage::{Answer, Reply};
+use stage::{Answer, Refusal, Reply};
 
 // A byte as a wider number.
 fn wide(x: u8) -> u16
@@ -143,16 +143,16 @@ pub fn set_up(image: &mut [u8], n: u32) -> Reply
     ensures { Does (set_up n) image.old result image.new }
 {
     if n < 1 {
-        return Reply::Refused(7);
+        return Err(Refusal::ModulesOutOfRange);
     }
     if 64 < n {
-        return Reply::Refused(7);
+        return Err(Refusal::ModulesOutOfRange);
     }
     if image.len() < 16 * (n as usize) + 268 {
-        return Reply::Refused(8);
+        return Err(Refusal::BufferTooShort);
     }
     put_fresh(image, n as u16);
-    Reply::Answered(Answer::DONE)
+    Ok(Answer::DONE)
 }
 
 // Takes the log: its entries go to the buffer that is lent for them.
@@ -161,13 +161,13 @@ pub fn take_log(image: &mut [u8], log: &mut [u8]) -> Reply
     ensures log_after { log.new ≡ buffer image.old log.old }
 {
     if !soundness::sound(image) {
-        return Reply::Refused(1);
+        return Err(Refusal::Unsound);
     }
     let held = held_of(image);
     if log.len() < held as usize {
-        return Reply::Refused(6);
+        return Err(Refusal::LogBufferTooShort);
     }
     hand_over(image, held, log);
     clear_log(image);
-    Reply::Answered(Answer::taken(held))
+    Ok(Answer::taken(held))
 }
