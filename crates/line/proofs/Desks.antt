@@ -13,6 +13,8 @@ use Rattle.line.specs.History.{Desk}
 use Rattle.line.specs.Mixed.{unraised, left_before, sound_before, called_by, mixed}
 use Rattle.stage.specs.Answers.{Reply}
 use Rattle.std.specs.Prelude.{Ok, Err}
+use Rattle.stage.specs.declared.Refusal.{Refusal}
+use Rattle.stage.specs.declared.Refusal.TheVariants.{Unsound}
 
 -- The machine as a desk: `bump` is how a link's count changes, `fits k` whether there is room for k modules.
 abbrev pub machine : (ℕ → ℕ) → (ℕ → Bool) → Desk
@@ -38,7 +40,7 @@ left_or P (step p) t t' today on =
 left_or P (take_log room) t t' today on = today
 
 module _ (bump : ℕ → ℕ) (fits : ℕ → Bool) (c : Call) (t : Table) (P : Reply × Table → Type 0)
-    (refused : (k : ℕ) → P (Err k, t))
+    (refused : (k : Refusal) → P (Err k, t))
     (accepted : Unrefused (refusals bump fits c t) → P (Ok (answered bump c t), after bump c t)) where
   today : P (called bump fits c t)
   unfolding called
@@ -50,5 +52,5 @@ module _ (bump : ℕ → ℕ) (fits : ℕ → Bool) (c : Call) (t : Table) (P : 
   by_desk on before =
       let r = called bump fits c t in
       choose P before
-      (λ _. choose P (sound_before c t) (λ _. left_or (λ (z : Table). P (r.0, z)) c t r.1 today (λ p e. on p r.0 r.1 e today)) (λ _. refused 1))
+      (λ _. choose P (sound_before c t) (λ _. left_or (λ (z : Table). P (r.0, z)) c t r.1 today (λ p e. on p r.0 r.1 e today)) (λ _. refused Unsound))
       (λ _. today)

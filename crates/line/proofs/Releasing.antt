@@ -10,7 +10,7 @@ use native.Mathlib.Omega.{arith}
 use Rattle.laws.proofs.Cases.{choose, equal}
 use Rattle.laws.proofs.Only.{among, included, either}
 use Rattle.stage.proofs.Update.{upd_same, upd_other, upd_all}
-use Rattle.stage.specs.Answers.{answer_of}
+use Rattle.stage.specs.Answers.{answer_of, Reply}
 use Rattle.stage.specs.Calls.{step}
 use Rattle.stage.specs.Rows.{find, rows, looked, looks_at, stepped}
 use Rattle.stage.specs.Table.{Table, upd, step_of, after_step}
@@ -197,7 +197,7 @@ module _ (t : Table) (o : Course) {h : ℕ} (i : Inv o.given t.private t.shared 
           (λ a. absurd (⊎_elim (λ b. n_q b.0) (λ b. omega (arith, a.0, b.1)) ((i.stands q).waits w_q).1))
           (waiting w_q).1
 
-  entering : Freed q t → ((me.stage ≡ 11) × Freed q t') ⊎ ((p : ℕ) × (Ok r.answer ≡ Ok (answer_of (Admitted p))))
+  entering : Freed q t → ((me.stage ≡ 11) × Freed q t') ⊎ ((p : ℕ) × ◌≡◌ {A = Reply} (Ok r.answer) (Ok (answer_of (Admitted p))))
   entering f =
       ⊎_elim
       (λ a. ⊎_elim
@@ -246,7 +246,7 @@ module _ (t : Table) (o : Course) {h : ℕ} (i : Inv o.given t.private t.shared 
             let n : x ≢ q = λ e. eqb-false q x no_x (sym e) in
             record { waiter = waits_other x n f.waiter; freed = still_freed x n f.freed };
         freed_steps = λ x yes_x.
-            subst (λ (z : ℕ). Freed z t → (((t.private z).stage ≡ 11) × Freed z t') ⊎ ((p : ℕ) × (Ok r.answer ≡ Ok (answer_of (Admitted p)))))
+            subst (λ (z : ℕ). Freed z t → (((t.private z).stage ≡ 11) × Freed z t') ⊎ ((p : ℕ) × ◌≡◌ {A = Reply} (Ok r.answer) (Ok (answer_of (Admitted p)))))
             (eqb-true q x yes_x) entering;
         waiter_stays = λ x no_x _. others x (eqb-false q x no_x);
         waiter_steps = λ x yes_x.

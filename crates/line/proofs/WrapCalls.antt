@@ -19,7 +19,7 @@ use Rattle.line.specs.Mixed.{unraised, left_before, sound_before, called_by}
 use Rattle.line.proofs.Desks.{called_table}
 use Rattle.line.proofs.Wrap.{wrap_private, wrap_shared, wrap_stepped, Alike, row_wraps}
 use Rattle.stage.specs.Answers.{Reply}
-use Rattle.stage.specs.declared.Refusal.TheVariants.{Unsound}
+use Rattle.stage.specs.declared.Refusal.TheVariants.{Unsound, NoSuchModule, WrongStage, LogFull}
 use Rattle.std.specs.Prelude.{Ok, Err}
 
 module _ (m : ℕ) where
@@ -94,9 +94,9 @@ module _ (m : ℕ) where
     refusals_wrap (begin_release p) fair = refl
     refusals_wrap (step p) fair =
         ap (λ (r : Stepped).
-        (not (within 1 t.n p), 2)
-        ∷ (eqb (t.private p).stage 0 || eqb (t.private p).stage 13, 4)
-        ∷ (admits r.answer.event && leb capacity (length t.log), 5)
+        (not (within 1 t.n p), NoSuchModule)
+        ∷ (eqb (t.private p).stage 0 || eqb (t.private p).stage 13, WrongStage)
+        ∷ (admits r.answer.event && leb capacity (length t.log), LogFull)
         ∷ []) (step_wraps t p (known p) fair)
     refusals_wrap (take_log room) fair = refl
 
