@@ -12,7 +12,7 @@ use Rattle.stage.specs.declared.Event.TheVariants.{Done, Waiting, Admitted, Join
 use Rattle.layout.specs.Layout.{length_for, read, put}
 use Rattle.image.specs.Call.{reply, image}
 use Rattle.line.specs.Mixed.{unraised}
-use Rattle.stage.specs.Answers.{Reply}
+use Rattle.stage.specs.Answers.{refusal_number, Reply}
 
 abbrev pub nil : ℕ
 nil = 0
@@ -69,7 +69,7 @@ answer_in (Err k) = []
 answer_in (Ok a) = a.number ∷ admitted a.event
 
 abbrev pub refusal_in : Reply → List ℕ
-refusal_in (Err k) = k ∷ []
+refusal_in (Err k) = refusal_number k ∷ []
 refusal_in (Ok a) = []
 
 -- the figures seen, of the reply r and the image b

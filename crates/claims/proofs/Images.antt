@@ -26,6 +26,7 @@ use Rattle.image.proofs.Sound.{put_sound}
 use Rattle.image.specs.Call.{refused, reply, image}
 use Rattle.stage.specs.Answers.{Reply}
 use Rattle.stage.specs.declared.Refusal.{Refusal}
+use Rattle.stage.specs.declared.Refusal.TheVariants.{Unsound}
 use Rattle.std.specs.Prelude.{Ok, Err}
 
 -- what stands outside 1 to n stays where a module's part is changed
@@ -139,10 +140,10 @@ module _ (long : ℕ) (s : List ℕ) (t : Table) (shows : Shows long s t) (c : C
   sound_t = subst Soundly shows.table (Sound.table s shows.is)
 
   -- it is refused for what the machine refuses it for
-  refused_is : refused c s ≡ (false, 1) ∷ tests
+  refused_is : refused c s ≡ (false, Unsound) ∷ tests
   unfolding refused
   refused_is =
-      λ i. (no_right (asks_sound c) (not (sound s)) (ap not shows.is) i, 1)
+      λ i. (no_right (asks_sound c) (not (sound s)) (ap not shows.is) i, Unsound)
       ∷ refusals (next size) (λ k. leb (length_for k) (shows.length_is i)) c (shows.table i)
 
   pub says_is : reply c s ≡ (called (next size) room c t).0

@@ -34,13 +34,15 @@ use Rattle.claims.proofs.Promises.{stays_sound}
 use Rattle.claims.specs.Claims.{images}
 use Rattle.claims.specs.Turns.{Move, call, turn, Past, stepping, turning, past, image_after, Able, seen, Faithful, Fair, NotRefused}
 use Rattle.std.specs.Prelude.{Some, Ok, Err}
+use Rattle.stage.specs.declared.Refusal.{Refusal}
+use Rattle.stage.specs.declared.Refusal.TheVariants.{MarkerOutOfRange}
 
 -- histories of the contracts -----------------------------------------------------------------------------------------------------
 
 -- what holds after a module's step, refused or accepted
 stepping_or :
     (P : Reply → Past → Type 0) (q : ℕ) (x : Past)
-    → ((k : ℕ) → P (Err k) (record { calls = step q ∷ x.calls; marker = x.marker; served = x.served }))
+    → ((k : Refusal) → P (Err k) (record { calls = step q ∷ x.calls; marker = x.marker; served = x.served }))
     → ((a : Answer) → P (Ok a) (record { calls = step q ∷ x.calls; marker = q; served = q ∷ x.served }))
     → (r : Reply) → P r (stepping q r x)
 unfolding stepping
@@ -117,7 +119,7 @@ module _ (b : List ℕ) (m : ℕ) (is : sound b ≡ true) where
   -- what a turn on a sound image comes to
   pub turn_is :
       (P : Turn → Type 0)
-      → (within 1 (read b).n m ≡ false → P (T.refused 10))
+      → (within 1 (read b).n m ≡ false → P (T.refused MarkerOutOfRange))
       → (1 ≤ m → m ≤ (read b).n → ((i : ℕ) → 1 ≤ i → i ≤ (read b).n → rests (read b) i ≡ true) → P nobody)
       → ((q : ℕ) → Serves b m q → P (step_by q))
       → P (turn_of b m)
@@ -228,7 +230,7 @@ module _ (b : List ℕ) (m : ℕ) (is : sound b ≡ true) where
       let now = image_after b m earlier in
       (within 1 (read now).n x.marker ≡ false → P x)
       → (((i : ℕ) → 1 ≤ i → i ≤ (read now).n → rests (read now) i ≡ true) → P (record { calls = x.calls; marker = x.marker; served = 0 ∷ x.served }))
-      → ((q k : ℕ) → Serves now x.marker q → reply (step q) now ≡ Err k → P (record { calls = step q ∷ x.calls; marker = x.marker; served = x.served }))
+      → ((q : ℕ) (k : Refusal) → Serves now x.marker q → reply (step q) now ≡ Err k → P (record { calls = step q ∷ x.calls; marker = x.marker; served = x.served }))
       → ((q : ℕ) (a : Answer) → Serves now x.marker q → reply (step q) now ≡ Ok a
       → P (record { calls = step q ∷ x.calls; marker = q; served = q ∷ x.served }))
       → P (past b m (turn ∷ earlier))

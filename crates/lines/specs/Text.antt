@@ -1,7 +1,7 @@
 -- What is written. Document 01, "The program `turns`": "Each command prints its answer number, or `x` and a space and the refusal. At the end of input come
 -- `lock` with the lock word and `log` with the held entries, blank-parted; an empty log prints `log` alone".
 use Rattle.std.specs.Prelude.{ℕ, ◌+◌, ◌/◌, ◌%◌, ◌≡◌, Bool, cond, List, [], ◌∷◌, ◌++◌, leb, ltb, length, take, drop, Ok, Err}
-use Rattle.stage.specs.Answers.{Reply}
+use Rattle.stage.specs.Answers.{refusal_number, Reply}
 
 -- a number below 1000 in decimal
 unfoldable pub decimal : ℕ → List ℕ
@@ -16,7 +16,7 @@ line_text word rest = word ++ rest ++ 10 ∷ []
 
 -- 120 and 32 are `x` and a space
 unfoldable pub reply_text : Reply → List ℕ
-reply_text (Err k) = line_text (120 ∷ 32 ∷ []) (decimal k)
+reply_text (Err k) = line_text (120 ∷ 32 ∷ []) (decimal (refusal_number k))
 reply_text (Ok a) = line_text [] (decimal a.number)
 
 -- "lock", a space and the lock word
