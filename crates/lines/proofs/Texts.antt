@@ -7,8 +7,8 @@ use borrow.Author.Tests.{lt-ltb, le-ltb}
 use lib.Dec.{ltb}
 use lib.ListN.{length, length-append}
 use Rattle.laws.proofs.Cases.{choose}
-use Rattle.lines.specs.Text.{decimal, line_text, reply_text, lock_text}
-use Rattle.stage.specs.Answers.{Reply}
+use Rattle.lines.specs.Text.{decimal, line_text, refusal_text, reply_text, lock_text}
+use Rattle.stage.specs.Answers.{refusal_number, Reply}
 use Rattle.std.specs.Prelude.{Ok, Err}
 
 module _ (x : ℕ) where
@@ -35,8 +35,8 @@ unfolding line_text
 line_length word rest = length-append (word ++ rest) (10 ∷ []) ∙ ap (λ (k : ℕ). k + 1) (length-append word rest)
 
 pub reply_short : (r : Reply) → length (reply_text r) ≤ 6
-unfolding reply_text
-reply_short (Err k) = omega (arith, decimal_short k, line_length (120 ∷ 32 ∷ []) (decimal k))
+unfolding refusal_text reply_text
+reply_short (Err k) = omega (arith, decimal_short (refusal_number k), line_length (120 ∷ 32 ∷ []) (decimal (refusal_number k)))
 reply_short (Ok a) = omega (arith, decimal_short a.number, line_length [] (decimal a.number))
 
 pub lock_short : (k : ℕ) → length (lock_text k) ≤ 9

@@ -15,8 +15,11 @@ unfoldable pub line_text : List ℕ → List ℕ → List ℕ
 line_text word rest = word ++ rest ++ 10 ∷ []
 
 -- 120 and 32 are `x` and a space
+unfoldable pub refusal_text : ℕ → List ℕ
+refusal_text k = line_text (120 ∷ 32 ∷ []) (decimal k)
+
 unfoldable pub reply_text : Reply → List ℕ
-reply_text (Err k) = line_text (120 ∷ 32 ∷ []) (decimal (refusal_number k))
+reply_text (Err k) = refusal_text (refusal_number k)
 reply_text (Ok a) = line_text [] (decimal a.number)
 
 -- "lock", a space and the lock word

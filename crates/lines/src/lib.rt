@@ -5,7 +5,7 @@ ghost use Rattle.std.specs.Prelude.{◌≡◌, [], ◌∷◌, ◌+◌, ◌-◌, 
 ghost use Rattle.lines.specs.Command as Line;
 ghost use Rattle.lines.specs.Command.{digit, number_from, number_at, last, of_one, of_two, parted, by_letter, command_of};
 ghost use Rattle.lines.specs.Inside.{Put};
-ghost use Rattle.lines.specs.Text.{decimal, line_text, reply_text, lock_text, entries_text, log_text, Writes};
+ghost use Rattle.lines.specs.Text.{decimal, line_text, refusal_text, reply_text, lock_text, entries_text, log_text, Writes};
 
 use stage::Reply;
 
@@ -295,17 +295,27 @@ fn put_line(out: &mut [u8], at: usize, word: &[u8], x: u8) -> usize
     put_byte(out, newline, 10)
 }
 
+// Writes the line of a refusal, by its number.
+#[tactic(auto, unfolding(crate::specs::Text::refusal_text))]
+pub fn put_refusal(out: &mut [u8], at: usize, number: u8) -> usize
+    ensures { Writes (refusal_text number) out.old at result out.new }
+{
+    put_line(out, at, b"x ", number)
+}
+
 // Writes what a call says.
+#[tactic(auto, unfolding(crate::specs::Text::reply_text))]
 pub fn put_reply(out: &mut [u8], at: usize, reply: Reply) -> usize
     ensures { Writes (reply_text reply) out.old at result out.new }
 {
     match reply {
-        Reply::Refused(k) => put_line(out, at, b"x ", k),
-        Reply::Answered(a) => put_line(out, at, b"", a.number),
+        Ok(answer) => put_line(out, at, b"", answer.number),
+        Err(refusal) => put_refusal(out, at, refusal.number()),
     }
 }
 
 // Writes the line of the lock word.
+#[tactic(auto, unfolding(crate::specs::Text::lock_text))]
 pub fn put_lock(out: &mut [u8], at: usize, lock: u8) -> usize
     ensures { Writes (lock_text lock) out.old at result out.new }
 {

@@ -12,7 +12,7 @@ ghost use Rattle.turning.specs.Program.{held_log, end_text};
 ghost use Rattle.turning.specs.Turn.{Turns};
 
 use lines::Command;
-use stage::Reply;
+use stage::{Refusal, Reply};
 use std::io::{Read, Write};
 
 // How many bytes are kept of the line that has begun, and the place after the text that is written.
@@ -39,7 +39,7 @@ pub fn turn(image: &mut [u8], line: &[u8]) -> Reply
         Command::BeginAcquisition(p, priority) => image::begin_acquisition(image, p, priority),
         Command::BeginRelease(p) => image::begin_release(image, p),
         Command::Step(p) => image::step(image, p),
-        Command::Malformed => Reply::Refused(9),
+        Command::Malformed => Err(Refusal::Malformed),
     }
 }
 
@@ -89,11 +89,8 @@ fn taken_of(reply: Reply) -> usize
     ensures { result ≡ taken_of reply }
 {
     match reply {
-        Reply::Refused(_) => 0,
-        Reply::Answered(a) => {
-            let event = a.event;
-            stage::length_taken(event) as usize
-        }
+        Ok(answer) => usize::from(answer.event.log_length().unwrap_or(0)),
+        Err(_) => 0,
     }
 }
 
