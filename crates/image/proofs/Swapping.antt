@@ -32,7 +32,8 @@ use Rattle.row.proofs.AfterSwap.{by_swap}
 use Rattle.layout.specs.Layout.{byte, length_for, modules, record_at, private_at, read, put}
 use Rattle.layout.proofs.Changes.{with_shared, w_place, link_place, w_there, its_there, put_stage, put_w, put_link}
 use Rattle.layout.proofs.Rewritten.{private_read, shared_read}
-use Rattle.image.specs.Inside.{IsNumber}
+use Rattle.image.specs.Inside.{IsNumber, Says}
+use Rattle.image.proofs.Replies.{answer_said, by_answer}
 use Rattle.image.specs.Call.{Does}
 use Rattle.image.proofs.Modules.{seen}
 use Rattle.image.proofs.Named.{steps}
@@ -171,17 +172,18 @@ module _ (b : List ℕ) (p : ℕ) (is : IsNumber b p) (nine : byte b (record_at 
     took done swaps = by_what swap_is refl done (swaps.0 ∙ ap (λ (x : Bool × List ℕ). x.0) swapped_there) (swaps.1 ∙ ap (λ (x : Bool × List ℕ). x.1) swapped_there)
 
   -- so the step is taken
-  says_so : (a : After) (b₂ : List ℕ) → Took a b₂ → Does (step p) b (Ok a.answer) b₂
+  says_so : (a : After) (b₂ : List ℕ) → Took a b₂ → Says p b (Ok a.answer.number) b₂
   says_so a b₂ took =
-      steps b p is (ap (λ (k : ℕ). eqb k 0 || eqb k 13) at_nine) a.answer
-      (no_left _ _ (ap (λ (x : Answer). admits x.event) (sym took.answer_is) ∙ took.quiet)) took.answer_is took.leaves_it
+      by_answer p b (answer_said b p is a.answer took.answer_is)
+      (steps b p is (ap (λ (k : ℕ). eqb k 0 || eqb k 13) at_nine) a.answer
+      (no_left _ _ (ap (λ (x : Answer). admits x.event) (sym took.answer_is) ∙ took.quiet)) took.answer_is took.leaves_it)
 
   pub prev_read : (at : ℕ) → at ≡ record_at b p → (1 ≤ byte b (at + 2)) × (byte b (at + 2) ≤ modules b)
   prev_read at e = subst⁻¹ (λ (q : ℕ). (1 ≤ q) × (q ≤ modules b)) (prev_is at e) prev_known
 
   -- the whole step, by the places that the code works out
   pub step_there : (at other : ℕ) (l w : Place) (done : Bool) (said : Result (Unit {0}) ℕ) (a : After) {b₁ b₂ : List ℕ} → at ≡ record_at b p → other ≡ record_at b (byte b (at + 2)) → l ≡ link_place other → w ≡ w_place at
-      → (done ≡ (swapped_in (next size) b l w p).0) × (b₁ ≡ (swapped_in (next size) b l w p).1) → said ≡ told done (byte b₁ (at + 4)) → Follows said a → b₂ ≡ set b₁ at a.stage → Does (step p) b (Ok a.answer) b₂
+      → (done ≡ (swapped_in (next size) b l w p).0) × (b₁ ≡ (swapped_in (next size) b l w p).1) → said ≡ told done (byte b₁ (at + 4)) → Follows said a → b₂ ≡ set b₁ at a.stage → Says p b (Ok a.answer.number) b₂
   step_there at other l w done said a {b₁} {b₂} here there l_is w_is swaps said_is follows stored =
       let l_there : l ≡ found = l_is ∙ ap link_place (there ∙ ap (record_at b) (prev_is at here)) in
       let w_there : w ≡ wanted = w_is ∙ ap w_place here in

@@ -20,7 +20,7 @@ use Rattle.stage.specs.declared.Refusal.{Refusal}
 use Rattle.stage.specs.declared.Refusal.TheVariants.{MarkerOutOfRange}
 use Rattle.image.specs.Call.{Does}
 use Rattle.image.specs.Inside.{Framed, IsNumber, given, unfound, first_able}
-use Rattle.image.specs.Turn.{Turn, refused, found, turn_of, Gives, GivesTurn}
+use Rattle.image.specs.Turn.{Turn, refused, found, turn_of, moved, Gives, GivesTurn}
 use Rattle.image.proofs.Refusals.{chosen, in_range}
 use Rattle.std.specs.Prelude.{Option, None, Some, Ok, Err}
 
@@ -111,9 +111,10 @@ module _ (b : List ℕ) (last m : ℕ) (known : IsNumber b last × (last ≡ m))
   nobody_steps e = subst⁻¹ (λ (t : Turn). Gives t b m (Ok (answer_of Nobody)) b m) (turn_is None e) (refl, refl, refl)
 
   -- with an answer the marker moves on, with a refusal it stays
-  pub moves_on : (p : ℕ) {m' : ℕ} (a : Answer) {b' : List ℕ} → Some p ≡ next_after (read b) last → Does (step p) b (Ok a) b' → m' ≡ p → GivesTurn b m (Ok a) b' m'
-  moves_on p {m'} a {b'} e does to = subst⁻¹ (λ (t : Turn). Gives t b m (Ok a) b' m') (turn_is (Some p) e) (does, to)
+  pub moves_on : (p : ℕ) (a : Answer) {r : Reply} {b' : List ℕ} {m' : ℕ} → Some p ≡ next_after (read b) last → Does (step p) b (Ok a) b' → r ≡ Ok a → m' ≡ p → GivesTurn b m r b' m'
+  moves_on p a {b' = b'} {m'} e does says to =
+      subst⁻¹ (λ (r : Reply). GivesTurn b m r b' m') says (subst⁻¹ (λ (t : Turn). Gives t b m (Ok a) b' m') (turn_is (Some p) e) (does, to))
 
   pub stays : (p : ℕ) (k : Refusal) {r : Reply} {b' : List ℕ} → Some p ≡ next_after (read b) last → Does (step p) b (Err k) b' → r ≡ Err k → GivesTurn b m r b' m
-  stays p k {r} {b'} e does says =
-      subst⁻¹ (λ (z : Reply). GivesTurn b m z b' m) says (subst⁻¹ (λ (t : Turn). Gives t b m (Err k) b' m) (turn_is (Some p) e) (does, refl))
+  stays p k {b' = b'} e does says =
+      subst⁻¹ (λ (r : Reply). GivesTurn b m r b' m) says (subst⁻¹ (λ (t : Turn). Gives t b m (Err k) b' m) (turn_is (Some p) e) (does, refl))

@@ -1,8 +1,9 @@
 -- What the private functions of this crate say of what they hand one another. No public contract cites this file.
-use Rattle.std.specs.Prelude.{◌≡◌, Bool, true, not, List, [], ◌∷◌, ℕ, ◌≤◌, length, set, Option, Some, None, Result, Ok, Err}
+use Rattle.std.specs.Prelude.{◌≡◌, Bool, true, cond, not, List, [], ◌∷◌, ℕ, ◌≤◌, eqb, length, set, Option, Some, None, Result, Ok, Err}
 use Rattle.link.specs.Count as Count
 use Rattle.link.specs.Count.{size}
-use Rattle.stage.specs.Calls.{within, capacity, refusing, rests}
+use Rattle.stage.specs.Answers.{answer_of}
+use Rattle.stage.specs.Calls.{step, within, capacity, refusing, rests}
 use Rattle.stage.specs.Rows.{looks_at}
 use Rattle.stage.specs.Table.{step_of}
 use Rattle.stage.specs.Turns.{from, first_that}
@@ -10,9 +11,12 @@ use Rattle.layout.specs.Layout.{length_for, trailer_at, modules, log_at, first_a
 use Rattle.layout.proofs.Stores.{puts}
 use Rattle.layout.proofs.Changes.{private_bytes, shared_bytes}
 use Rattle.soundness.specs.SoundImage.{sound}
+use Rattle.image.specs.Call.{Does}
 use Rattle.image.specs.declared.Frame.{Frame}
 use Rattle.image.specs.declared.Module.{Module}
 use Rattle.image.specs.declared.Looked.{Looked}
+use Rattle.stage.specs.declared.Answer.{Answer}
+use Rattle.stage.specs.declared.Event.TheVariants.{Done, Waiting, Admitted, Joined, Left, Finished}
 use Rattle.stage.specs.declared.Refusal.{Refusal}
 use Rattle.stage.specs.declared.Refusal.TheVariants.{Unsound}
 
@@ -69,3 +73,18 @@ pub record Looks (b : List ℕ) (m : Module) (l : Looked) : Type 0 where
 unfoldable pub parts_put : List ℕ → Module → Looked → List ℕ
 parts_put b m l =
     set (puts (puts b m.at (private_bytes l.stepped.me)) l.at (shared_bytes l.stepped.its)) m.frame.trailer l.stepped.lock
+
+-- the answer of module p's step, by its number
+unfoldable pub numbered : ℕ → ℕ → Answer
+numbered p number =
+    cond (eqb number 0) (answer_of Done)
+    (cond (eqb number 1) (answer_of Waiting)
+    (cond (eqb number 2) (answer_of (Admitted p))
+    (cond (eqb number 3) (answer_of Joined)
+    (cond (eqb number 4) (answer_of Left)
+    (answer_of Finished)))))
+
+-- from the image b the step of module p says that, by the number of its answer, and leaves the image b'
+abbrev pub Says : ℕ → List ℕ → Result ℕ Refusal → List ℕ → Type 0
+Says p b (Ok number) b' = Does (step p) b (Ok (numbered p number)) b'
+Says p b (Err k) b' = Does (step p) b (Err k) b'

@@ -15,7 +15,7 @@ ghost use Rattle.layout.proofs.Stores.{puts};
 ghost use Rattle.layout.proofs.Changes.{private_bytes, shared_bytes, length_bytes, w_place, link_place};
 ghost use Rattle.soundness.specs.SoundImage.{sound};
 ghost use Rattle.image.specs.Call.{Does, lock_word};
-ghost use Rattle.image.specs.Inside.{Framed, IsNumber, IsModule, Finds, first_able, Looks, parts_put};
+ghost use Rattle.image.specs.Inside.{Framed, IsNumber, IsModule, Finds, first_able, Looks, numbered, parts_put, Says};
 ghost use Rattle.image.specs.Turn.{GivesTurn};
 
 use inplace::Place;
@@ -320,24 +320,23 @@ fn begin_release_of(image: &mut [u8], m: Module) -> Reply
 }
 
 // A step at stage 9, with no part copied out: a swap of prev's link and w where they lie, and then the stage.
-fn swap_of(image: &mut [u8], number: u8) -> Answer
+fn swap_of(image: &mut [u8], number: u8) -> u8
     requires { IsNumber image.old number × (byte image.old (record_at image.old number) ≡ 9) }
-    ensures { Does (Calls.step number) image.old (Ok result) image.new }
+    ensures { Says number image.old (Ok result) image.new }
 {
     let first = frame_of(image).first;
     let at = place(first, number);
     let its = link_of(place(first, image[at + 2]));
     let done = its.swap(image, w_of(at), number);
-    let swapped = if done { Ok(()) } else { Err(image[at + 4]) };
-    let after = row::after_swap(swapped);
+    let after = row::after_swap(done.then_some(()).ok_or(image[at + 4]));
     image[at] = after.stage;
-    after.answer
+    after.answer.number
 }
 
 // A step at any other stage: its row by value.
-fn row_of(image: &mut [u8], number: u8) -> Reply
+fn row_of(image: &mut [u8], number: u8) -> Result<u8, Refusal>
     requires { IsNumber image.old number × (Calls.rests (read image.old) number ≡ false) }
-    ensures { Does (Calls.step number) image.old result image.new }
+    ensures { Says number image.old result image.new }
 {
     let m = module_of(image, number);
     let l = look(image, m);
@@ -346,13 +345,14 @@ fn row_of(image: &mut [u8], number: u8) -> Reply
         return Err(Refusal::LogFull);
     }
     store(image, m, l);
-    Ok(answer)
+    Ok(answer.number)
 }
 
-// One step of a module that was found. Two functions call it, so the compiler keeps it apart, and its frame stands beside that of the check.
-fn step_of(image: &mut [u8], number: u8) -> Reply
+// One step of a module that was found: the number of its answer, or its refusal. Two functions call it, so the compiler keeps it apart, and its
+// frame stands beside that of the check. The number and the refusal come back in registers; a whole reply would go through memory.
+fn step_of(image: &mut [u8], number: u8) -> Result<u8, Refusal>
     requires { IsNumber image.old number }
-    ensures { Does (Calls.step number) image.old result image.new }
+    ensures { Says number image.old result image.new }
 {
     let at = place(frame_of(image).first, number);
     let stage = image[at];
@@ -363,6 +363,21 @@ fn step_of(image: &mut [u8], number: u8) -> Reply
         return Ok(swap_of(image, number));
     }
     row_of(image, number)
+}
+
+// The answer of module p's step, by its number.
+#[tactic(auto, unfolding(crate::specs::Inside::numbered))]
+fn numbered(p: u8, number: u8) -> Answer
+    ensures { result ≡ numbered p number }
+{
+    match number {
+        0 => Answer::DONE,
+        1 => Answer::WAITING,
+        2 => Answer::admitted(p),
+        3 => Answer::JOINED,
+        4 => Answer::LEFT,
+        _ => Answer::FINISHED,
+    }
 }
 
 // The first of the modules from p to the one before `end` that can step.
@@ -426,7 +441,7 @@ pub fn step(image: &mut [u8], p: u32) -> Reply
     ensures { Does (Calls.step p) image.old result image.new }
 {
     let number = find(image, p, Refusal::NoSuchModule)?;
-    step_of(image, number)
+    Ok(numbered(number, step_of(image, number)?))
 }
 
 // Hands out a turn: the module after the last one served takes a step, and the marker, which is lent, moves on to it.
@@ -437,7 +452,7 @@ pub fn turn(image: &mut [u8], marker: &mut u32) -> Reply
     let Some(p) = next_after(image, last) else {
         return Ok(Answer::NOBODY);
     };
-    let answer = step_of(image, p)?;
+    let number = step_of(image, p)?;
     *marker = u32::from(p);
-    Ok(answer)
+    Ok(numbered(p, number))
 }

@@ -13,8 +13,8 @@ returns-in_default c = nobody_steps _ _ _ c.in_ok-last.ensures c.in_default.ensu
 pub step_of-requires : goal.step_of-requires
 step_of-requires c = is_known _ _ _ c.in_ok-last.ensures _ c.in-Some.ensures
 
-pub returns-in_err-answer : goal.returns-in_err-answer
-returns-in_err-answer c = stays _ _ _ c.in_ok-last.ensures _ _ c.in-Some.ensures c.in_err-answer.ensures (search rules)
+pub returns-in_err-number : goal.returns-in_err-number
+returns-in_err-number c = stays _ _ _ c.in_ok-last.ensures _ _ c.in-Some.ensures c.in_err-number.ensures (search rules)
 
 pub returns : goal.returns
-returns c = moves_on _ _ _ c.in_ok-last.ensures _ _ c.in-Some.ensures c.in_ok-answer.ensures c.from.ensures
+returns c = moves_on _ _ _ c.in_ok-last.ensures _ _ c.in-Some.ensures c.in_ok-number.ensures (search rules) c.from.ensures
