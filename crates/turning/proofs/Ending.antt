@@ -3,11 +3,11 @@ use mathlib.Core.Path.{◌≡◌, refl, sym, ◌∙◌, ap, ap₂, subst}
 use mathlib.Core.Bool.{Bool, true, false}
 use mathlib.Core.List.{List, [], ◌∷◌, ◌++◌}
 use Prim.Native.Nat.{ℕ, ◌+◌, ◌-◌, ◌≤◌}
-use native.Mathlib.Nat.{sub-zero}
+use native.Mathlib.Nat.{sub-zero, suc-ne-zero}
 use native.Mathlib.Omega.{arith}
 use borrow.Author.Tests.{le-ltb}
 use lib.ListN.{length, take, drop}
-use lib.Seq.{length-take-le, take-append_seam}
+use lib.Seq.{take-append_seam}
 use Rattle.stage.specs.Calls.{take_log, capacity, refusals, refusing, answered}
 use Rattle.stage.specs.declared.Reply.{Reply}
 use Rattle.layout.specs.Layout.{read}
@@ -18,11 +18,11 @@ use Rattle.image.proofs.Sound.{written}
 use Rattle.lines.specs.Inside.{Put}
 use Rattle.lines.specs.Text.{reply_text, lock_text, log_text, Writes}
 use Rattle.lines.proofs.Entries.{log_short}
-use Rattle.lines.proofs.Putting.{put_then, put_same, writes_put}
+use Rattle.lines.proofs.Putting.{put_then, writes_put}
 use Rattle.lines.proofs.Texts.{reply_short, lock_short}
 use Rattle.turning.specs.Inside.{finished, standing, taken_of}
 use Rattle.turning.specs.Program.{last_line, held_log, end_text, text_of}
-use Rattle.turning.specs.Turn.{answer_to, image_after, Turns}
+use Rattle.turning.specs.Turn.{Turns}
 
 -- what taking the log says, and what it leaves in a buffer that is long enough, are the held log
 module _ (b lent : List ℕ) (room : length lent ≡ capacity) where
@@ -63,24 +63,19 @@ end_put b out {k} e h same writes put =
     put_then (writes_put (omega (arith, lock_short k)) same writes) put (ap (λ (x : ℕ). lock_text x ++ log_text (held_log b)) (sym e))
 
 -- no line has begun, so the end alone is written
-pub finish_none : (b line : List ℕ) (count : ℕ) (out : List ℕ) {r : ℕ} {out' : List ℕ} → count ≡ 0 → Put (end_text b) out 0 r out' → Put (finished (standing b line count out 0)) out 0 r out'
+pub finish_none : (b line out out' : List ℕ) (r : ℕ) → length line ≡ 0 → Put (end_text b) out 0 r out' → Put (finished (standing b line out 0)) out 0 r out'
 unfolding finished standing text_of last_line
-finish_none b line count out e put = put_same (ap (λ (k : ℕ). text_of (last_line (take k line)) b) (sym e)) put
-
-not_empty : (l : List ℕ) → (length l ≡ 0 → ⊥) → last_line l ≡ l ∷ []
-unfolding last_line
-not_empty [] h = absurd (h refl)
-not_empty (x ∷ l) h = refl
+finish_none b [] out out' r e put = put
+finish_none b (x ∷ l) out out' r e put = absurd (suc-ne-zero (length l) e)
 
 -- what follows the last newline is answered first
-pub finish_line : (b line : List ℕ) (count : ℕ) (out : List ℕ) {r : Reply} {b' out' out'' : List ℕ} {at' at'' : ℕ} →
-    (count ≡ 0 → ⊥) → count ≤ length line → Turns (take (count - 0) line) b r b' → 1043 ≤ length out → length out' ≡ length out → Writes (reply_text r) out 0 at' out' → Put (end_text b') out' at' at'' out'' →
-    Put (finished (standing b line count out 0)) out 0 at'' out''
-unfolding finished standing text_of
-finish_line b line count out {r} some_count long turns h same writes put =
-    let l : List ℕ = take count line in
-    let l_is : take (count - 0) line ≡ l = ap (λ (k : ℕ). take k line) (sub-zero count) in
-    let one : last_line l ≡ l ∷ [] = not_empty l (λ e. some_count (sym (length-take-le count line long) ∙ e)) in
+pub finish_line : (b line out out' out'' : List ℕ) (r : Reply) (b' : List ℕ) (at at' : ℕ) →
+    (length line ≡ 0 → ⊥) → Turns line b r b' → 6 ≤ length out → length out' ≡ length out → Writes (reply_text r) out 0 at out' → Put (end_text b') out' at at' out'' →
+    Put (finished (standing b line out 0)) out 0 at' out''
+unfolding finished standing text_of last_line
+finish_line b [] out out' out'' r b' at at' begun turns h same writes put = absurd (begun refl)
+finish_line b (x ∷ l) out out' out'' r b' at at' begun turns h same writes put =
     put_then (writes_put (omega (arith, reply_short r)) same writes) put
-    (ap (λ (ls : List (List ℕ)). text_of ls b) one
-    ∙ ap₂ (λ (s : Reply) (k : List ℕ). reply_text s ++ end_text k) (sym (turns.says ∙ ap (λ (k : List ℕ). answer_to k b) l_is)) (sym (turns.leaves ∙ ap (λ (k : List ℕ). image_after k b) l_is)))
+    (ap₂ (λ (s : Reply) (k : List ℕ). reply_text s ++ end_text k) (sym turns.says) (sym turns.leaves))
+
+pub ruleset finishes = (finish_none, finish_line)
