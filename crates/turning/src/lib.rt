@@ -89,13 +89,14 @@ fn feed(image: &mut [u8], kept: &mut Kept, x: u8, out: &mut [u8], at: usize) -> 
     ensures session { standing image.new kept.new out.new result ≡ fed (standing image.old kept.old out.old at) x }
     ensures at_bound { result ≤ at + 6 }
 {
-    if x == 10 {
+    if x == b'\n' {
         let reply = turn(image, kept.line());
         kept.clear();
-        return lines::put_reply(out, at, reply);
+        lines::put_reply(out, at, reply)
+    } else {
+        kept.push(x);
+        at
     }
-    kept.push(x);
-    at
 }
 
 // Takes a block of input. The text of its answers is put at the front of the buffer, and the result is the place after it.
@@ -160,53 +161,24 @@ fn finish(image: &mut [u8], kept: &Kept, out: &mut [u8]) -> usize
     put_end(image, out, at)
 }
 
-// Reads a block of input, and writes its answers. The result is whether there was any more. Where reading fails the input is at its end,
-// and where writing fails there is nobody to tell.
-fn answer_some<R: Read, W: Write>(
-    input: &mut R,
-    output: &mut W,
-    image: &mut [u8],
-    kept: &mut Kept,
-    block: &mut [u8],
-    out: &mut [u8],
-) -> bool
-    requires { 6 * length block.old ≤ length out.old }
-{
-    let n = input.read(block).unwrap_or(0);
-    if n == 0 {
-        return false;
-    }
-    let end = answer(image, kept, &block[..n], out);
-    let _ = output.write_all(&out[..end]);
-    true
-}
-
-// Takes all of the input. A proved loop has to end, and nothing says that the input does: so it counts its turns, up to a number that no run
-// uses up.
-fn answer_all<R: Read, W: Write>(
-    input: &mut R,
-    output: &mut W,
-    image: &mut [u8],
-    kept: &mut Kept,
-    out: &mut [u8],
-)
-    requires { 393216 ≤ length out.old }
-{
-    let mut block = [0u8; 65536];
-    for _ in 0..u64::MAX {
-        if !answer_some(input, output, image, kept, &mut block, out) {
-            return;
-        }
-    }
-}
-
 // The program, on the input that it reads and the output that it writes. The text of a block has at most six bytes for each of its own, were they
 // all newlines.
+//
+// Where reading fails the input is at its end, and where writing fails there is nobody to tell. A proved loop has to end, and nothing says that
+// the input does: so this one counts its turns, up to a number that no run uses up.
 pub fn run<R: Read, W: Write>(input: &mut R, output: &mut W) {
     let mut image = [0u8; 1292];
     let mut kept = Kept::new();
+    let mut block = [0u8; 65536];
     let mut out = [0u8; 393216];
-    answer_all(input, output, &mut image, &mut kept, &mut out);
+    for _ in 0..u64::MAX {
+        let n = input.read(&mut block).unwrap_or(0);
+        if n == 0 {
+            break;
+        }
+        let end = answer(&mut image, &mut kept, &block[..n], &mut out);
+        let _ = output.write_all(&out[..end]);
+    }
     let end = finish(&mut image, &kept, &mut out);
     let _ = output.write_all(&out[..end]);
 }
