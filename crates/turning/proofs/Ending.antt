@@ -63,19 +63,17 @@ end_put b out {k} e h same writes put =
     put_then (writes_put (omega (arith, lock_short k)) same writes) put (ap (λ (x : ℕ). lock_text x ++ log_text (held_log b)) (sym e))
 
 -- no line has begun, so the end alone is written
-pub finish_none : (b line out out' : List ℕ) (r : ℕ) → length line ≡ 0 → Put (end_text b) out 0 r out' → Put (finished (standing b line out 0)) out 0 r out'
+pub finish_none : (b line : List ℕ) {out out' : List ℕ} {r : ℕ} → length line ≡ 0 → Put (end_text b) out 0 r out' → Put (finished (standing b line out 0)) out 0 r out'
 unfolding finished standing text_of last_line
-finish_none b [] out out' r e put = put
-finish_none b (x ∷ l) out out' r e put = absurd (suc-ne-zero (length l) e)
+finish_none b [] e put = put
+finish_none b (x ∷ l) e put = absurd (suc-ne-zero (length l) e)
 
 -- what follows the last newline is answered first
-pub finish_line : (b line out out' out'' : List ℕ) (r : Reply) (b' : List ℕ) (at at' : ℕ) →
+pub finish_line : (b line : List ℕ) {out out' out'' : List ℕ} {r : Reply} {b' : List ℕ} {at at' : ℕ} →
     (length line ≡ 0 → ⊥) → Turns line b r b' → 6 ≤ length out → length out' ≡ length out → Writes (reply_text r) out 0 at out' → Put (end_text b') out' at at' out'' →
     Put (finished (standing b line out 0)) out 0 at' out''
 unfolding finished standing text_of last_line
-finish_line b [] out out' out'' r b' at at' begun turns h same writes put = absurd (begun refl)
-finish_line b (x ∷ l) out out' out'' r b' at at' begun turns h same writes put =
+finish_line b [] begun turns h same writes put = absurd (begun refl)
+finish_line b (x ∷ l) {r = r} begun turns h same writes put =
     put_then (writes_put (omega (arith, reply_short r)) same writes) put
     (ap₂ (λ (s : Reply) (k : List ℕ). reply_text s ++ end_text k) (sym turns.says) (sym turns.leaves))
-
-pub ruleset finishes = (finish_none, finish_line)

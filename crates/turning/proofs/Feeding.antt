@@ -4,11 +4,11 @@ use mathlib.Core.List.{List, [], ◌∷◌, ◌++◌}
 use Prim.Native.Nat.{ℕ, ◌+◌, ◌≤◌, ◌<◌}
 use native.Mathlib.Omega.{arith}
 use lib.ListN.{length, take, get_or}
+use Rattle.std.proofs.lemmas.List.{take_more}
 use Rattle.stage.specs.declared.Reply.{Reply}
 use Rattle.lines.specs.Inside.{Put}
 use Rattle.lines.specs.Text.{reply_text, Writes}
 use Rattle.lines.proofs.Texts.{reply_short}
-use Rattle.lines.proofs.Entries.{take_one_more}
 use Rattle.lines.proofs.Putting.{writes_put, front}
 use Rattle.turning.specs.Inside.{Session, fed, fed_all}
 
@@ -34,4 +34,4 @@ fed_append s (x ∷ l) more = fed_append (fed s x) l more
 -- one byte more of an input
 pub fed_more : (s : Session) (l : List ℕ) (i : ℕ) → i < length l → fed_all s (take (i + 1) l) ≡ fed (fed_all s (take i l)) (get_or l i 0)
 unfolding fed_all
-fed_more s l i h = ap (fed_all s) (take_one_more l i h) ∙ fed_append s (take i l) (get_or l i 0 ∷ [])
+fed_more s l i h = ap (fed_all s) (take_more l i 0 h) ∙ fed_append s (take i l) (get_or l i 0 ∷ [])

@@ -10,9 +10,9 @@ returns c =
     rw (← c.line-line.ensures)
     (elim c.if-is_empty.branch [
       | then-is_empty w ↦
-          finish_none _ _ _ _ _ (grind arith)
+          finish_none _ _ (grind arith)
           (rw (w.image-is, w.out-is, w.at-is) at c.put_end.ensures)
       | else-is_empty w ↦
-          finish_line _ _ _ _ _ _ _ _ _ (grind arith) w.turn.ensures (omega (arith, c.requires)) w.put_reply-at.auto.out w.put_reply-at.ensures
+          finish_line _ _ (grind arith) w.turn.ensures (omega (arith, c.requires)) w.put_reply-at.auto.out w.put_reply-at.ensures
           (rw (w.image-is, w.out-is, w.at-is) at c.put_end.ensures)
     ])
