@@ -32,7 +32,7 @@ impl Model for Kept {
 }
 
 impl Kept {
-    // Of a line that has not begun.
+    // Of a line that has not begun nothing is kept.
     fn new() -> Self
         ensures { result ≡ [] }
     {
@@ -42,14 +42,14 @@ impl Kept {
         }
     }
 
-    // They are what is known of the line.
+    // These bytes are all that is known of the line.
     fn line(&self) -> &[u8]
         ensures { result.now ≡ self.now }
     {
         &self.bytes[..self.count]
     }
 
-    // Keeps one more, while there are fewer than 17.
+    // Keeps one more, while there are fewer than 17: a line of so many is malformed, whatever follows.
     #[tactic(auto, unfolding(crate::specs::Inside::grown))]
     fn push(&mut self, x: u8)
         ensures { self.new ≡ grown self.old x }
@@ -60,7 +60,7 @@ impl Kept {
         }
     }
 
-    // The next line has not begun.
+    // The line has ended, and of the next one nothing is kept yet.
     fn clear(&mut self)
         ensures { self.new ≡ [] }
     {
