@@ -69,6 +69,7 @@ impl Kept {
 }
 
 // What one line does on an image.
+#[tactic(auto, unfolding(crate::specs::Turn::call_of, crate::specs::Turn::reply_of, crate::specs::Turn::image_of, crate::specs::Turn::answer_to, crate::specs::Turn::image_after))]
 pub fn turn(image: &mut [u8], line: &[u8]) -> Reply
     ensures { Turns line.now image.old result image.new }
 {
