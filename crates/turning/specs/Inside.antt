@@ -42,7 +42,7 @@ unfoldable pub in_blocks : Session → List (List ℕ) → List ℕ
 in_blocks s [] = finished (afresh s)
 in_blocks s (block ∷ others) = (fed_all (afresh s) block).text ++ in_blocks (fed_all (afresh s) block) others
 
--- where the program stands, by what it has in its buffers: the first `at` bytes of one are the text
+-- where the program stands, by what it has: the image, the bytes that are kept of the line, and a buffer whose first `at` bytes are the text
 unfoldable pub standing : List ℕ → List ℕ → List ℕ → ℕ → Session
 standing image line out at = record { image = image; line = line; text = take at out }
 
