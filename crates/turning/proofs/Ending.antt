@@ -1,13 +1,12 @@
 -- What is written at the end of input. Assumes nothing.
-use mathlib.Core.Path.{◌≡◌, refl, sym, ◌∙◌, ap, ap₂, subst}
-use mathlib.Core.Bool.{Bool, true, false}
+use mathlib.Core.Path.{◌≡◌, refl, sym, ap, ap₂}
+use mathlib.Core.Bool.{true}
 use mathlib.Core.List.{List, [], ◌∷◌, ◌++◌}
-use Prim.Native.Nat.{ℕ, ◌+◌, ◌-◌, ◌≤◌}
-use native.Mathlib.Nat.{sub-zero, suc-ne-zero}
+use Prim.Native.Nat.{ℕ, ◌+◌, ◌≤◌}
+use native.Mathlib.Nat.{suc-ne-zero}
 use native.Mathlib.Omega.{arith}
-use borrow.Author.Tests.{le-ltb}
-use lib.ListN.{length, take, drop}
-use lib.Seq.{take-append_seam}
+use lib.ListN.{length, take}
+use Rattle.std.proofs.lemmas.Grind.{common_steps}
 use Rattle.stage.specs.Calls.{take_log, capacity, refusals, refusing, answered}
 use Rattle.stage.specs.declared.Reply.{Reply}
 use Rattle.layout.specs.Layout.{read}
@@ -17,7 +16,6 @@ use Rattle.image.specs.Call.{refused, reply, buffer, lock_word}
 use Rattle.image.proofs.Sound.{written}
 use Rattle.lines.specs.Inside.{Put}
 use Rattle.lines.specs.Text.{reply_text, lock_text, log_text, Writes}
-use Rattle.lines.proofs.Entries.{log_short}
 use Rattle.lines.proofs.Putting.{put_then, writes_put}
 use Rattle.lines.proofs.Texts.{reply_short, lock_short}
 use Rattle.turning.specs.Inside.{finished, standing, taken_of}
@@ -25,35 +23,23 @@ use Rattle.turning.specs.Program.{last_line, held_log, end_text, text_of}
 use Rattle.turning.specs.Turn.{Turns}
 
 -- what taking the log says, and what it leaves in a buffer that is long enough, are the held log
-module _ (b lent : List ℕ) (room : length lent ≡ capacity) where
-  few : sound b ≡ true → length (read b).log ≤ length lent
-  few is = omega (arith, room, length_held b (written b is).fits (written b is).held_fits, (written b is).held_fits)
+module _ (b : List ℕ) where
+  few : sound b ≡ true → length (read b).log ≤ capacity
+  few is = omega (arith, length_held b (written b is).fits (written b is).held_fits, (written b is).held_fits)
 
-  both : (t : Bool) → sound b ≡ t →
-      (taken_of (reply (take_log (length lent)) b) ≡ length (held_log b))
-      × ((take (length (held_log b)) (buffer b lent) ≡ held_log b) × (length (held_log b) ≤ capacity))
-  unfolding reply buffer refused refusals refusing answered held_log
-  both true is =
-      let fits = le-ltb (length lent) (length (read b).log) (few is) in (
-        simp (is, fits),
-        (simp (is, fits) (take-append_seam (read b).log (drop (length (read b).log) lent)), simp is (omega (arith, few is, room))),
-      )
-  both false is = (simp is, (simp is, simp is (omega arith)))
+  pub held_short : length (held_log b) ≤ capacity
+  unfolding held_log
+  held_short = grind (arith, common_steps, few)
 
-  module _ {r : Reply} {held : ℕ} {lent' : List ℕ} (says : r ≡ reply (take_log (length lent)) b) (held_is : held ≡ taken_of r) (leaves : lent' ≡ buffer b lent) where
-    count : held ≡ length (held_log b)
-    count = held_is ∙ ap taken_of says ∙ (both (sound b) refl).0
+  pub held_count : taken_of (reply (take_log 256) b) ≡ length (held_log b)
+  unfolding reply refused refusals refusing answered held_log
+  held_count = grind (arith, common_steps, few)
 
-    pub held_within : {n : ℕ} → n ≡ length lent → held ≤ n
-    held_within same = omega (arith, room, count, (both (sound b) refl).1.1)
+  pub held_there : (lent : List ℕ) → length lent ≡ capacity → take (length (held_log b)) (buffer b lent) ≡ held_log b
+  unfolding buffer refused refusals refusing held_log
+  held_there lent room = grind (arith, common_steps, few)
 
-    -- its line was written, of the code's `log[0..held]`
-    pub log_put : {out out' : List ℕ} {at at' : ℕ} →
-        at + 1028 ≤ length out → length out' ≡ length out → Writes (log_text (take (held - 0) lent')) out at at' out' → Put (log_text (held_log b)) out at at' out'
-    log_put {out} {out'} {at} {at'} h same writes =
-        let log_is : take (held - 0) lent' ≡ held_log b =
-        ap (λ (l : List ℕ). take (held - 0) l) leaves ∙ ap (λ (k : ℕ). take k (buffer b lent)) (sub-zero held ∙ count) ∙ (both (sound b) refl).1.0 in
-        writes_put (omega (arith, log_short (held_log b), count, (both (sound b) refl).1.1)) same (subst (λ (l : List ℕ). Writes (log_text l) out at at' out') log_is writes)
+pub ruleset helds = (held_short, held_count, held_there)
 
 -- the two lines of the end
 pub end_put : (b out : List ℕ) {k at at' at'' : ℕ} {out' out'' : List ℕ} →

@@ -128,13 +128,14 @@ fn taken_of(reply: Reply) -> usize
 }
 
 // Takes the log and puts its line.
+#[tactic(auto, using(crate::proofs::Ending::helds))]
 fn put_held(image: &mut [u8], out: &mut [u8], at: usize) -> usize
     requires { at + 1028 ≤ length out.old }
     ensures { Put (log_text (held_log image.old)) out.old at result out.new }
 {
     let mut log = [0u8; 256];
     let held = taken_of(whole::take_log(image, &mut log));
-    lines::put_log(out, at, &log[0..held])
+    lines::put_log(out, at, &log[..held])
 }
 
 // Puts the lines of the end of input.
