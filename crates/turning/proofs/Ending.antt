@@ -1,14 +1,14 @@
 -- What is written at the end of input. Assumes nothing.
-use mathlib.Core.Path.{◌≡◌, refl, sym, ◌∙◌, ap, ap₂, subst}
-use mathlib.Core.Bool.{Bool, true, false}
+use mathlib.Core.Path.{◌≡◌, refl, sym, ap, ap₂}
+use mathlib.Core.Bool.{true}
 use mathlib.Core.List.{List, [], ◌∷◌, ◌++◌}
-use Prim.Native.Nat.{ℕ, ◌+◌, ◌-◌, ◌≤◌}
-use native.Mathlib.Nat.{sub-zero}
+use Prim.Native.Nat.{ℕ, ◌+◌, ◌≤◌}
+use native.Mathlib.Nat.{suc-ne-zero}
 use native.Mathlib.Omega.{arith}
-use borrow.Author.Tests.{le-ltb}
-use lib.ListN.{length, take, drop}
-use lib.Seq.{length-take-le, take-append_seam}
+use lib.ListN.{length, take}
+use Rattle.std.proofs.lemmas.Grind.{common_steps}
 use Rattle.stage.specs.Calls.{take_log, capacity, refusals, refusing, answered}
+use Rattle.stage.specs.Answers.{Reply}
 use Rattle.layout.specs.Layout.{read}
 use Rattle.layout.proofs.Rewritten.{length_held}
 use Rattle.soundness.specs.SoundImage.{sound}
@@ -16,44 +16,30 @@ use Rattle.image.specs.Call.{refused, reply, buffer, lock_word}
 use Rattle.image.proofs.Sound.{written}
 use Rattle.lines.specs.Inside.{Put}
 use Rattle.lines.specs.Text.{reply_text, lock_text, log_text, Writes}
-use Rattle.lines.proofs.Entries.{log_short}
-use Rattle.lines.proofs.Putting.{put_then, put_same, writes_put}
+use Rattle.lines.proofs.Putting.{put_then, writes_put}
 use Rattle.lines.proofs.Texts.{reply_short, lock_short}
 use Rattle.turning.specs.Inside.{finished, standing, taken_of}
 use Rattle.turning.specs.Program.{last_line, held_log, end_text, text_of}
-use Rattle.turning.specs.Turn.{answer_to, image_after, Turns}
-use Rattle.stage.specs.Answers.{Reply}
+use Rattle.turning.specs.Turn.{Turns}
 
 -- what taking the log says, and what it leaves in a buffer that is long enough, are the held log
-module _ (b lent : List ℕ) (room : length lent ≡ capacity) where
-  few : sound b ≡ true → length (read b).log ≤ length lent
-  few is = omega (arith, room, length_held b (written b is).fits (written b is).held_fits, (written b is).held_fits)
+module _ (b : List ℕ) where
+  few : sound b ≡ true → length (read b).log ≤ capacity
+  few is = omega (arith, length_held b (written b is).fits (written b is).held_fits, (written b is).held_fits)
 
-  both : (t : Bool) → sound b ≡ t →
-      (taken_of (reply (take_log (length lent)) b) ≡ length (held_log b))
-      × ((take (length (held_log b)) (buffer b lent) ≡ held_log b) × (length (held_log b) ≤ capacity))
-  unfolding reply buffer refused refusals refusing answered held_log
-  both true is =
-      let fits = le-ltb (length lent) (length (read b).log) (few is) in (
-        simp (is, fits),
-        (simp (is, fits) (take-append_seam (read b).log (drop (length (read b).log) lent)), simp is (omega (arith, few is, room))),
-      )
-  both false is = (simp is, (simp is, simp is (omega arith)))
+  pub held_short : length (held_log b) ≤ capacity
+  unfolding held_log
+  held_short = grind (arith, common_steps, few)
 
-  module _ {r : Reply} {held : ℕ} {lent' : List ℕ} (says : r ≡ reply (take_log (length lent)) b) (held_is : held ≡ taken_of r) (leaves : lent' ≡ buffer b lent) where
-    count : held ≡ length (held_log b)
-    count = held_is ∙ ap taken_of says ∙ (both (sound b) refl).0
+  pub held_count : taken_of (reply (take_log 256) b) ≡ length (held_log b)
+  unfolding reply refused refusals refusing answered held_log
+  held_count = grind (arith, common_steps, few)
 
-    pub held_within : {n : ℕ} → n ≡ length lent → held ≤ n
-    held_within same = omega (arith, room, count, (both (sound b) refl).1.1)
+  pub held_there : (lent : List ℕ) → length lent ≡ capacity → take (length (held_log b)) (buffer b lent) ≡ held_log b
+  unfolding buffer refused refusals refusing held_log
+  held_there lent room = grind (arith, common_steps, few)
 
-    -- its line was written, of the code's `log[0..held]`
-    pub log_put : {out out' : List ℕ} {at at' : ℕ} →
-        at + 1028 ≤ length out → length out' ≡ length out → Writes (log_text (take (held - 0) lent')) out at at' out' → Put (log_text (held_log b)) out at at' out'
-    log_put {out} {out'} {at} {at'} h same writes =
-        let log_is : take (held - 0) lent' ≡ held_log b =
-        ap (λ (l : List ℕ). take (held - 0) l) leaves ∙ ap (λ (k : ℕ). take k (buffer b lent)) (sub-zero held ∙ count) ∙ (both (sound b) refl).1.0 in
-        writes_put (omega (arith, log_short (held_log b), count, (both (sound b) refl).1.1)) same (subst (λ (l : List ℕ). Writes (log_text l) out at at' out') log_is writes)
+pub ruleset helds = (held_short, held_count, held_there)
 
 -- the two lines of the end
 pub end_put : (b out : List ℕ) {k at at' at'' : ℕ} {out' out'' : List ℕ} →
@@ -63,24 +49,17 @@ end_put b out {k} e h same writes put =
     put_then (writes_put (omega (arith, lock_short k)) same writes) put (ap (λ (x : ℕ). lock_text x ++ log_text (held_log b)) (sym e))
 
 -- no line has begun, so the end alone is written
-pub finish_none : (b line : List ℕ) (count : ℕ) (out : List ℕ) {r : ℕ} {out' : List ℕ} → count ≡ 0 → Put (end_text b) out 0 r out' → Put (finished (standing b line count out 0)) out 0 r out'
+pub finish_none : (b line : List ℕ) {out out' : List ℕ} {r : ℕ} → length line ≡ 0 → Put (end_text b) out 0 r out' → Put (finished (standing b line out 0)) out 0 r out'
 unfolding finished standing text_of last_line
-finish_none b line count out e put = put_same (ap (λ (k : ℕ). text_of (last_line (take k line)) b) (sym e)) put
-
-not_empty : (l : List ℕ) → (length l ≡ 0 → ⊥) → last_line l ≡ l ∷ []
-unfolding last_line
-not_empty [] h = absurd (h refl)
-not_empty (x ∷ l) h = refl
+finish_none b [] e put = put
+finish_none b (x ∷ l) e put = absurd (suc-ne-zero (length l) e)
 
 -- what follows the last newline is answered first
-pub finish_line : (b line : List ℕ) (count : ℕ) (out : List ℕ) {r : Reply} {b' out' out'' : List ℕ} {at' at'' : ℕ} →
-    (count ≡ 0 → ⊥) → count ≤ length line → Turns (take (count - 0) line) b r b' → 1043 ≤ length out → length out' ≡ length out → Writes (reply_text r) out 0 at' out' → Put (end_text b') out' at' at'' out'' →
-    Put (finished (standing b line count out 0)) out 0 at'' out''
-unfolding finished standing text_of
-finish_line b line count out {r} some_count long turns h same writes put =
-    let l : List ℕ = take count line in
-    let l_is : take (count - 0) line ≡ l = ap (λ (k : ℕ). take k line) (sub-zero count) in
-    let one : last_line l ≡ l ∷ [] = not_empty l (λ e. some_count (sym (length-take-le count line long) ∙ e)) in
+pub finish_line : (b line : List ℕ) {out out' out'' : List ℕ} {r : Reply} {b' : List ℕ} {at at' : ℕ} →
+    (length line ≡ 0 → ⊥) → Turns line b r b' → 6 ≤ length out → length out' ≡ length out → Writes (reply_text r) out 0 at out' → Put (end_text b') out' at at' out'' →
+    Put (finished (standing b line out 0)) out 0 at' out''
+unfolding finished standing text_of last_line
+finish_line b [] begun turns h same writes put = absurd (begun refl)
+finish_line b (x ∷ l) {r = r} begun turns h same writes put =
     put_then (writes_put (omega (arith, reply_short r)) same writes) put
-    (ap (λ (ls : List (List ℕ)). text_of ls b) one
-    ∙ ap₂ (λ (s : Reply) (k : List ℕ). reply_text s ++ end_text k) (sym (turns.says ∙ ap (λ (k : List ℕ). answer_to k b) l_is)) (sym (turns.leaves ∙ ap (λ (k : List ℕ). image_after k b) l_is)))
+    (ap₂ (λ (s : Reply) (k : List ℕ). reply_text s ++ end_text k) (sym turns.says) (sym turns.leaves))

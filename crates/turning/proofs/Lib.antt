@@ -1,4 +1,3 @@
 pub mod Blocks
 pub mod Ending
 pub mod Feeding
-pub mod Turning

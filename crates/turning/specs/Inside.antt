@@ -40,9 +40,9 @@ unfoldable pub in_blocks : Session → List (List ℕ) → List ℕ
 in_blocks s [] = finished (afresh s)
 in_blocks s (block ∷ others) = (fed_all (afresh s) block).text ++ in_blocks (fed_all (afresh s) block) others
 
--- where the program stands, by what it has in its buffers: the first `count` bytes of one are the line's, the first `at` of another the text
-unfoldable pub standing : List ℕ → List ℕ → ℕ → List ℕ → ℕ → Session
-standing image line count out at = record { image = image; line = take count line; text = take at out }
+-- where the program stands, by what it has: the image, the bytes that are kept of the line, and a buffer whose first `at` bytes are the text
+unfoldable pub standing : List ℕ → List ℕ → List ℕ → ℕ → Session
+standing image line out at = record { image = image; line = line; text = take at out }
 
 -- how many entries of a log were taken
 abbrev pub taken_of : Reply → ℕ

@@ -4,32 +4,72 @@
 // around them `run` only reads and writes, of which its contract says nothing.
 #![tactic(auto)]
 
-ghost use Rattle.std.specs.Prelude.{◌≡◌, ◌+◌, ◌*◌, ◌≤◌, length};
+ghost use Rattle.std.specs.Prelude.{◌≡◌, ◌+◌, ◌*◌, ◌≤◌, ℕ, List, [], length, take};
 ghost use Rattle.lines.specs.Inside.{Put};
 ghost use Rattle.lines.specs.Text.{log_text};
-ghost use Rattle.turning.specs.Inside.{fed, fed_all, finished, standing, taken_of};
+ghost use Rattle.turning.specs.Inside.{fed, fed_all, finished, grown, standing, taken_of};
 ghost use Rattle.turning.specs.Program.{held_log, end_text};
 ghost use Rattle.turning.specs.Turn.{Turns};
 
 use lines::Command;
 use stage::{Refusal, Reply};
 use std::io::{Read, Write};
+use std::marker::Model;
 
-// How many bytes are kept of the line that has begun, and the place after the text that is written.
-#[derive(Clone, Copy)]
-struct Place {
+// The bytes that are kept of the line that has begun.
+#[derive(Drop)]
+struct Kept {
+    bytes: [u8; 17],
     count: usize,
-    at: usize,
 }
 
-// How many bytes are kept of the line that has begun, and whether the input is at its end.
-#[derive(Clone, Copy)]
-struct Round {
-    count: usize,
-    is_last: bool,
+impl Model for Kept {
+    ghost Value = { List ℕ };
+
+    ghost view = { λ k. take k.count k.bytes };
+
+    ghost invariant = { λ k. k.count ≤ 17 };
+}
+
+impl Kept {
+    // Of a line that has not begun nothing is kept.
+    fn new() -> Self
+        ensures { result ≡ [] }
+    {
+        Kept {
+            bytes: [0; 17],
+            count: 0,
+        }
+    }
+
+    // These bytes are all that is known of the line.
+    fn line(&self) -> &[u8]
+        ensures { result.now ≡ self.now }
+    {
+        &self.bytes[..self.count]
+    }
+
+    // Keeps one more, while there are fewer than 17: a line of so many is malformed, whatever follows.
+    #[tactic(auto, unfolding(crate::specs::Inside::grown))]
+    fn push(&mut self, x: u8)
+        ensures { self.new ≡ grown self.old x }
+    {
+        if self.count < 17 {
+            self.bytes[self.count] = x;
+            self.count += 1;
+        }
+    }
+
+    // The line has ended, and of the next one nothing is kept yet.
+    fn clear(&mut self)
+        ensures { self.new ≡ [] }
+    {
+        self.count = 0;
+    }
 }
 
 // What one line does on an image.
+#[tactic(auto, unfolding(crate::specs::Turn::call_of, crate::specs::Turn::reply_of, crate::specs::Turn::image_of, crate::specs::Turn::answer_to, crate::specs::Turn::image_after))]
 pub fn turn(image: &mut [u8], line: &[u8]) -> Reply
     ensures { Turns line.now image.old result image.new }
 {
@@ -43,45 +83,35 @@ pub fn turn(image: &mut [u8], line: &[u8]) -> Reply
     }
 }
 
-// Takes a byte of input.
-fn feed(image: &mut [u8], line: &mut [u8], count: usize, x: u8, out: &mut [u8], at: usize) -> Place
-    requires { (length line.old ≡ 17) × (count ≤ 17) × (at + 6 ≤ length out.old) }
-    ensures at_after { standing image.new line.new result.count out.new result.at ≡ fed (standing image.old line.old count out.old at) x }
-    ensures count_bound { (result.count ≤ 17) × (result.at ≤ at + 6) }
+// Takes a byte of input. The result is the place after the text.
+#[tactic(auto, using(crate::proofs::Feeding::replies), unfolding(crate::specs::Inside::fed, crate::specs::Inside::ended, crate::specs::Inside::standing))]
+fn feed(image: &mut [u8], kept: &mut Kept, x: u8, out: &mut [u8], at: usize) -> usize
+    requires { at + 6 ≤ length out.old }
+    ensures session { standing image.new kept.new out.new result ≡ fed (standing image.old kept.old out.old at) x }
+    ensures at_bound { result ≤ at + 6 }
 {
-    if x == 10 {
-        let reply = turn(image, &line[0..count]);
-        return Place {
-            count: 0,
-            at: lines::put_reply(out, at, reply),
-        };
+    if x == b'\n' {
+        let reply = turn(image, kept.line());
+        kept.clear();
+        lines::put_reply(out, at, reply)
+    } else {
+        kept.push(x);
+        at
     }
-    if count < 17 {
-        line[count] = x;
-        return Place {
-            count: count + 1,
-            at,
-        };
-    }
-    Place { count, at }
 }
 
-// Takes a block of input. The text of its answers is put at the front of the buffer.
-fn answer(image: &mut [u8], line: &mut [u8], count: usize, block: &[u8], out: &mut [u8]) -> Place
-    requires { (length line.old ≡ 17) × (count ≤ 17) × (6 * length block.now ≤ length out.old) }
-    ensures at_after { standing image.new line.new result.count out.new result.at ≡ fed_all (standing image.old line.old count out.old 0) block.now }
-    ensures count_bound { (result.count ≤ 17) × (result.at ≤ length out.new) }
+// Takes a block of input. The text of its answers is put at the front of the buffer, and the result is the place after it.
+#[tactic(auto, using(crate::proofs::Feeding::fed_more), unfolding(crate::specs::Inside::fed_all))]
+fn answer(image: &mut [u8], kept: &mut Kept, block: &[u8], out: &mut [u8]) -> usize
+    requires { 6 * length block.now ≤ length out.old }
+    ensures session { standing image.new kept.new out.new result ≡ fed_all (standing image.old kept.old out.old 0) block.now }
+    ensures at_bound { result ≤ length out.new }
 {
-    let mut kept = count;
     let mut at = 0;
-    let mut i = 0;
-    while i < block.len() {
-        let place = feed(image, line, kept, block[i], out, at);
-        kept = place.count;
-        at = place.at;
-        i += 1;
+    for &x in block {
+        at = feed(image, kept, x, out, at);
     }
-    Place { count: kept, at }
+    at
 }
 
 // How many entries of a log were taken.
@@ -95,13 +125,14 @@ fn taken_of(reply: Reply) -> usize
 }
 
 // Takes the log and puts its line.
+#[tactic(auto, using(crate::proofs::Ending::helds))]
 fn put_held(image: &mut [u8], out: &mut [u8], at: usize) -> usize
     requires { at + 1028 ≤ length out.old }
     ensures { Put (log_text (held_log image.old)) out.old at result out.new }
 {
     let mut log = [0u8; 256];
     let held = taken_of(whole::take_log(image, &mut log));
-    lines::put_log(out, at, &log[0..held])
+    lines::put_log(out, at, &log[..held])
 }
 
 // Puts the lines of the end of input.
@@ -114,112 +145,39 @@ fn put_end(image: &mut [u8], out: &mut [u8], at: usize) -> usize
 }
 
 // Takes the end of input.
-fn finish(image: &mut [u8], line: &[u8], count: usize, out: &mut [u8]) -> usize
-    requires { (count ≤ length line.now) × (1043 ≤ length out.old) }
-    ensures { Put (finished (standing image.old line.now count out.old 0)) out.old 0 result out.new }
+#[tactic(auto, using(crate::proofs::Feeding::replies))]
+fn finish(image: &mut [u8], kept: &Kept, out: &mut [u8]) -> usize
+    requires { 1043 ≤ length out.old }
+    ensures { Put (finished (standing image.old kept.now out.old 0)) out.old 0 result out.new }
 {
-    let is_empty = count == 0;
-    if is_empty {
-        return put_end(image, out, 0);
-    }
-    let reply = turn(image, &line[0..count]);
-    let end = lines::put_reply(out, 0, reply);
-    put_end(image, out, end)
+    let line = kept.line();
+    let is_empty = line.is_empty();
+    let at = if is_empty {
+        0
+    } else {
+        lines::put_reply(out, 0, turn(image, line))
+    };
+    put_end(image, out, at)
 }
 
-// Reads a block of input, if there is any more, and writes its answers. Where reading fails the input is at its end.
-fn answer_some<R: Read, W: Write>(
-    input: &mut R,
-    output: &mut W,
-    image: &mut [u8],
-    line: &mut [u8],
-    count: usize,
-    block: &mut [u8],
-    out: &mut [u8],
-) -> Round
-    requires { (length line.old ≡ 17) × (count ≤ 17) × (6 * length block.old ≤ length out.old) }
-    ensures { result.count ≤ 17 }
-{
-    let n = read_some(input, block);
-    if n == 0 {
-        return Round {
-            count,
-            is_last: true,
-        };
-    }
-    let place = answer(image, line, count, &block[0..n], out);
-    let end = place.at;
-    write_all(output, &out[0..end]);
-    Round {
-        count: place.count,
-        is_last: false,
-    }
-}
-
-// How many bytes of input were put at the front of the block: none at the end of the input, and none where reading fails.
-fn read_some<R: Read>(input: &mut R, block: &mut [u8]) -> usize
-    ensures { result ≤ length block.new }
-{
-    match input.read(block) {
-        Ok(n) => n,
-        Err(_) => 0,
-    }
-}
-
-// Writes the text. Where writing fails there is nobody to tell.
-fn write_all<W: Write>(output: &mut W, text: &[u8]) {
-    match output.write_all(text) {
-        Ok(()) => {}
-        Err(_) => {}
-    }
-}
-
-// Takes all of the input. A proved loop has to end, and nothing says that the input does: so it counts its turns down, from a number
-// that no run uses up.
-fn answer_all<R: Read, W: Write>(
-    input: &mut R,
-    output: &mut W,
-    image: &mut [u8],
-    line: &mut [u8],
-    out: &mut [u8],
-) -> usize
-    requires { (length line.old ≡ 17) × (393216 ≤ length out.old) }
-    ensures { result ≤ 17 }
-{
-    let mut block = block_buffer();
-    let mut count = 0;
-    let mut turns = u64::MAX;
-    while 0 < turns {
-        let round = answer_some(input, output, image, line, count, &mut block, out);
-        count = round.count;
-        if round.is_last {
-            return count;
-        }
-        turns -= 1;
-    }
-    count
-}
-
-// Room for a block of input.
-fn block_buffer() -> [u8; 65536]
-    ensures { 65536 ≡ length result }
-{
-    [0u8; 65536]
-}
-
-// Room for the text of a block: at most six bytes for each of its own, were they all newlines.
-fn text_buffer() -> [u8; 393216]
-    ensures { 393216 ≡ length result }
-{
-    [0u8; 393216]
-}
-
-// The program, on the input that it reads and the output that it writes.
+// The program, on the input that it reads and the output that it writes. The text of a block has at most six bytes for each of its own, were they
+// all newlines.
+//
+// Where reading fails the input is at its end, and where writing fails there is nobody to tell. A proved loop has to end, and nothing says that
+// the input does: so this one counts its turns, up to a number that no run uses up.
 pub fn run<R: Read, W: Write>(input: &mut R, output: &mut W) {
     let mut image = [0u8; 1292];
-    let mut line = [0u8; 17];
-    let mut out = text_buffer();
-    let count = answer_all(input, output, &mut image, &mut line, &mut out);
-    let end = finish(&mut image, &line, count, &mut out);
-    write_all(output, &out[0..end]);
+    let mut kept = Kept::new();
+    let mut block = [0u8; 65536];
+    let mut out = [0u8; 393216];
+    for _ in 0..u64::MAX {
+        let n = input.read(&mut block).unwrap_or(0);
+        if n == 0 {
+            break;
+        }
+        let end = answer(&mut image, &mut kept, &block[..n], &mut out);
+        let _ = output.write_all(&out[..end]);
+    }
+    let end = finish(&mut image, &kept, &mut out);
+    let _ = output.write_all(&out[..end]);
 }

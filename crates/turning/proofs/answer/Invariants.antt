@@ -1,12 +1,12 @@
--- `answer` feeds byte after byte of the block. The invariant: those passed are answered.
-use Prim.Native.Nat.{◌-◌}
-use lib.ListN.{length}
-use Rattle.turning.proofs.Feeding.{Answered}
+-- `answer` feeds byte after byte of the block. The invariant: those passed are fed.
+use mathlib.Core.Path.{◌≡◌}
+use Prim.Native.Nat.{◌*◌, ◌≤◌}
+use lib.ListN.{take}
+use Rattle.turning.specs.Inside.{fed_all, standing}
 use Rattle.turning.proofs.answer.Given as goal
 
-abbrev pub invariant-loop-i : goal.invariant-loop-i
-invariant-loop-i l =
-    Answered l.initial.image l.initial.line l.count l.initial.out l.block l.image l.line l.kept l.out l.at l.i
-
-abbrev pub decreases-loop-i : goal.decreases-loop-i
-decreases-loop-i l = length l.block - l.i
+abbrev pub invariant-loop-x : goal.invariant-loop-x
+invariant-loop-x l = record {
+  session : standing l.image l.kept l.out l.at ≡ fed_all (standing l.initial.image l.initial.kept l.initial.out 0) (take l.x-index l.block);
+  near : l.at ≤ 6 * l.x-index;
+}

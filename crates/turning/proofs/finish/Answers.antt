@@ -1,15 +1,18 @@
 -- `finish` answers a line that has begun, and puts the end.
 -- Assumes nothing.
-use Rattle.lines.proofs.Texts.{reply_short}
-use Rattle.lines.proofs.Putting.{room_left}
+use native.Mathlib.Omega.{arith}
 use Rattle.turning.proofs.Ending.{finish_none, finish_line}
 use Rattle.turning.proofs.finish.Goals as goal
-
-pub returns-then-is_empty : goal.returns-then-is_empty
-returns-then-is_empty c = finish_none _ _ _ _ c.if-is_empty.true c.put_end.ensures
-
-pub put_end-requires-2 : goal.put_end-requires-2
-put_end-requires-2 c = room_left 6 1037 (reply_short _) c.requires.1 c.put_reply-end.auto.out c.put_reply-end.ensures
+use Rattle.turning.proofs.finish.Goals.{then-is_empty, else-is_empty}
 
 pub returns : goal.returns
-returns c = finish_line _ _ _ _ c.if-is_empty.false c.requires.0 c.turn-reply.ensures c.requires.1 c.put_reply-end.auto.out c.put_reply-end.ensures c.put_end-2.ensures
+returns c =
+    rw (← c.line-line.ensures)
+    (elim c.if-is_empty.branch [
+      | then-is_empty w ↦
+          finish_none _ _ (grind arith)
+          (rw (w.image-is, w.out-is, w.at-is) at c.put_end.ensures)
+      | else-is_empty w ↦
+          finish_line _ _ (grind arith) w.turn.ensures (omega (arith, c.requires)) w.put_reply-at.auto.out w.put_reply-at.ensures
+          (rw (w.image-is, w.out-is, w.at-is) at c.put_end.ensures)
+    ])

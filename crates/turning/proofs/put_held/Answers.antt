@@ -1,11 +1,15 @@
 -- `put_held` takes the log, which has room in 256 bytes, and puts the line of as many entries as were taken.
 -- Assumes nothing.
-use mathlib.Core.Path.{refl}
-use Rattle.turning.proofs.Ending.{held_within, log_put}
+use mathlib.Core.Path.{◌≡◌}
+use native.Mathlib.Omega.{arith}
+use lib.ListN.{take}
+use Rattle.lines.proofs.Entries.{log_short}
+use Rattle.lines.proofs.Putting.{writes_put}
+use Rattle.turning.specs.Program.{held_log}
+use Rattle.turning.proofs.Ending.{held_short, helds}
 use Rattle.turning.proofs.put_held.Goals as goal
 
-pub slice_bounds-put_log-end : goal.slice_bounds-put_log-end
-slice_bounds-put_log-end c = held_within _ _ refl c.take_log.ensures.does.says c.taken_of-held.ensures c.take_log.ensures.log_after c.take_log.auto.log
-
 pub returns : goal.returns
-returns c = log_put _ _ refl c.take_log.ensures.does.says c.taken_of-held.ensures c.take_log.ensures.log_after c.requires c.put_log.auto.out c.put_log.ensures
+returns c =
+    let log_is : take c.taken_of-held.result c.take_log.new.log ≡ held_log c.args.image.now = grind (arith, helds) in
+    writes_put (omega (arith, log_short (held_log c.args.image.now), held_short c.args.image.now)) c.put_log.auto.out (rw log_is at c.put_log.ensures)
