@@ -10,9 +10,10 @@ ghost use Rattle.stage.specs.Calls as Calls;
 ghost use Rattle.stage.specs.Calls.{begin_acquisition, begin_release, admits, capacity};
 ghost use Rattle.stage.specs.Table.{after_step};
 ghost use Rattle.stage.specs.Turns.{next_after};
+ghost use Rattle.inplace.specs.InPlace.{Lies, link_at, link_put};
 ghost use Rattle.layout.specs.Layout.{byte, two, record_at, private_at, shared_at, read, put};
 ghost use Rattle.layout.proofs.Stores.{puts};
-ghost use Rattle.layout.proofs.Changes.{private_bytes, shared_bytes, length_bytes, w_place, link_place};
+ghost use Rattle.layout.proofs.Changes.{private_bytes, shared_bytes, length_bytes, link_in};
 ghost use Rattle.soundness.specs.SoundImage.{sound};
 ghost use Rattle.image.specs.Call.{Does, lock_word};
 ghost use Rattle.image.specs.Inside.{Framed, IsNumber, IsModule, Finds, first_able, Looks, numbered, parts_put, Says};
@@ -54,7 +55,19 @@ const GREATEST: u32 = 254;
 
 const INSIDE: u8 = 13;
 
+// Where w and the link lie in every record.
+const W: Place = Place {
+    pointer: 3,
+    count: 6,
+};
+
+const LINK: Place = Place {
+    pointer: 8,
+    count: 10,
+};
+
 // The number of two bytes at a place.
+#[tactic(auto, unfolding(layout::specs::Layout::two))]
 fn two_at(image: &[u8], at: usize) -> u16
     requires { at + 2 ≤ length image.now }
     ensures { result ≡ two image.now at }
@@ -78,7 +91,32 @@ fn frame_of(image: &[u8]) -> Frame
     }
 }
 
+// Where a link of the record at a place lies, by where it lies in every record.
+fn link_in(at: usize, part: Place) -> Place
+    requires { (at + part.pointer < 2 ^ 64) × (at + part.count < 2 ^ 64) }
+    ensures { result ≡ link_in part.pointer part.count at }
+{
+    Place {
+        pointer: at + part.pointer,
+        count: at + part.count,
+    }
+}
+
+// The link at a place.
+#[tactic(auto, unfolding(inplace::specs::InPlace::link_at, layout::specs::Layout::two))]
+fn link_at(image: &[u8], l: Place) -> Link
+    requires { Lies l image.now }
+    ensures { result ≡ link_at image.now l }
+{
+    Link {
+        pointer: image[l.pointer],
+        mark: image[l.pointer + 1],
+        count: two_at(image, l.count),
+    }
+}
+
 // The private part of the record at a place.
+#[tactic(auto, using(layout::proofs::Changes::w_there), unfolding(layout::specs::Layout::private_at))]
 fn private_at(image: &[u8], at: usize) -> Private
     requires { at + 16 ≤ length image.now }
     ensures { result ≡ private_at image.now at }
@@ -87,26 +125,19 @@ fn private_at(image: &[u8], at: usize) -> Private
         stage: image[at],
         own: image[at + 1],
         prev: image[at + 2],
-        w: Link {
-            pointer: image[at + 3],
-            mark: image[at + 4],
-            count: two_at(image, at + 6),
-        },
+        w: link_at(image, link_in(at, W)),
         s: image[at + 14],
     }
 }
 
 // The shared part of the record at a place.
+#[tactic(auto, using(layout::proofs::Changes::its_there), unfolding(layout::specs::Layout::shared_at))]
 fn shared_at(image: &[u8], at: usize) -> Shared
     requires { at + 16 ≤ length image.now }
     ensures { result ≡ shared_at image.now at }
 {
     Shared {
-        link: Link {
-            pointer: image[at + 8],
-            mark: image[at + 9],
-            count: two_at(image, at + 10),
-        },
+        link: link_at(image, link_in(at, LINK)),
         priority: image[at + 12],
         locked: image[at + 13],
     }
@@ -122,7 +153,19 @@ fn put_two(image: &mut [u8], at: usize, k: u16)
     image[at + 1] = low;
 }
 
+// Stores a link at a place.
+#[tactic(auto, unfolding(inplace::specs::InPlace::link_put))]
+fn put_link(image: &mut [u8], at: Place, l: Link)
+    requires { Lies at image.old }
+    ensures { image.new ≡ link_put image.old at l }
+{
+    image[at.pointer] = l.pointer;
+    image[at.pointer + 1] = l.mark;
+    put_two(image, at.count, l.count);
+}
+
 // Stores a private part in the record at a place.
+#[tactic(auto, unfolding(inplace::specs::InPlace::link_put))]
 fn put_private(image: &mut [u8], at: usize, me: Private)
     requires { at + 16 ≤ length image.old }
     ensures { image.new ≡ puts image.old at (private_bytes me) }
@@ -130,20 +173,17 @@ fn put_private(image: &mut [u8], at: usize, me: Private)
     image[at] = me.stage;
     image[at + 1] = me.own;
     image[at + 2] = me.prev;
-    image[at + 3] = me.w.pointer;
-    image[at + 4] = me.w.mark;
-    put_two(image, at + 6, me.w.count);
+    put_link(image, link_in(at, W), me.w);
     image[at + 14] = me.s;
 }
 
 // Stores a shared part in the record at a place.
+#[tactic(auto, unfolding(inplace::specs::InPlace::link_put))]
 fn put_shared(image: &mut [u8], at: usize, its: Shared)
     requires { at + 16 ≤ length image.old }
     ensures { image.new ≡ puts image.old at (shared_bytes its) }
 {
-    image[at + 8] = its.link.pointer;
-    image[at + 9] = its.link.mark;
-    put_two(image, at + 10, its.link.count);
+    put_link(image, link_in(at, LINK), its.link);
     image[at + 12] = its.priority;
     image[at + 13] = its.locked;
 }
@@ -154,28 +194,6 @@ fn put_length(image: &mut [u8], at: usize, k: u16)
     ensures { image.new ≡ puts image.old at (length_bytes k) }
 {
     put_two(image, at + 4, k);
-}
-
-// Where w lies in the record at a place.
-fn w_of(at: usize) -> Place
-    requires { at + 16 < 2 ^ 64 }
-    ensures { result ≡ w_place at }
-{
-    Place {
-        pointer: at + 3,
-        count: at + 6,
-    }
-}
-
-// Where the link lies in the record at a place.
-fn link_of(at: usize) -> Place
-    requires { at + 16 < 2 ^ 64 }
-    ensures { result ≡ link_place at }
-{
-    Place {
-        pointer: at + 8,
-        count: at + 10,
-    }
 }
 
 // The place of module p's record.
@@ -326,8 +344,8 @@ fn swap_of(image: &mut [u8], number: u8) -> u8
 {
     let first = frame_of(image).first;
     let at = place(first, number);
-    let its = link_of(place(first, image[at + 2]));
-    let done = its.swap(image, w_of(at), number);
+    let its = link_in(place(first, image[at + 2]), LINK);
+    let done = its.swap(image, link_in(at, W), number);
     let after = row::after_swap(done.then_some(()).ok_or(image[at + 4]));
     image[at] = after.stage;
     after.answer.number
