@@ -1,10 +1,9 @@
 // The lines that the program `turns` reads and writes: what a line of input asks for, and the text of an answer. 01, "The program `turns`".
 #![tactic(auto)]
 
-ghost use Rattle.std.specs.Prelude.{◌≡◌, [], ◌∷◌, ◌+◌, ◌-◌, ◌≤◌, ◌<◌, leb, length, get_or};
-ghost use Rattle.lines.specs.Command as Line;
-ghost use Rattle.lines.specs.Command.{digit, number_from, number_at, last, of_one, of_two, parted, by_letter, command_of};
-ghost use Rattle.lines.specs.Inside.{Put};
+ghost use Rattle.std.specs.Prelude.{◌≡◌, [], ◌∷◌, ◌+◌, ◌-◌, ◌*◌, ◌≤◌, ◌<◌, option_map, leb, length};
+ghost use Rattle.lines.specs.Command.{longer, number, last, command_of};
+ghost use Rattle.lines.specs.Inside.{Put, read};
 ghost use Rattle.lines.specs.Text.{decimal, line_text, reply_text, lock_text, entries_text, log_text, Writes};
 
 use stage::Reply;
@@ -16,172 +15,63 @@ pub enum Command {
     BeginAcquisition(u32, u32),
     BeginRelease(u32),
     Step(u32),
-    Malformed,
 }
 
-// A number that was read, and the place after it.
-#[derive(Clone, Copy)]
-enum Number {
-    Read(u32, usize),
-    Nothing,
-}
-
-// The byte at a place, or 0 past the end.
-fn byte_at(line: &[u8], at: usize) -> u8
-    ensures { result ≡ get_or line.now at 0 }
+// A number with one digit more, if the line begins with one, and the rest of the line.
+fn longer(n: u32, line: &[u8]) -> (u32, &[u8])
+    requires { n < 100 }
+    ensures value { read result ≡ longer n line.now }
+    ensures bound { result.0 < 10 * n + 10 }
 {
-    if at < line.len() { line[at] } else { 0 }
+    match line {
+        [x @ b'0'..=b'9', rest @ ..] => (10 * n + u32::from(*x - b'0'), rest),
+        _ => (n, line),
+    }
 }
 
-// Whether a byte is a digit.
-fn is_digit(x: u8) -> bool
-    ensures { result ≡ digit x }
+// The number at the front of a line, and the rest of the line: `0`, or one to three digits that do not begin with it.
+fn number(line: &[u8]) -> Option<(u32, &[u8])>
+    ensures { option_map read result ≡ number line.now }
 {
-    if x < 48 {
-        return false;
-    }
-    x <= 57
-}
-
-// What a digit is worth.
-fn worth(x: u8) -> u32
-    ensures { (result ≡ x - 48) × (result < 256) }
-{
-    if x < 48 {
-        return 0;
-    }
-    (x - 48) as u32
-}
-
-// The number of three digits.
-fn value(a: u8, b: u8, c: u8) -> u32
-    ensures { result ≡ Line.value a b c }
-{
-    100 * worth(a) + 10 * worth(b) + worth(c)
-}
-
-// The number that begins with the byte a, at a place of a line.
-#[tactic(auto, using(laws::proofs::Said::choices), unfolding(crate::specs::Command::number_from))]
-fn number_from(a: u8, b: u8, c: u8, d: u8, at: usize) -> Number
-    requires { at ≤ 32 }
-    ensures { result ≡ number_from a b c d at }
-{
-    if !is_digit(a) {
-        return Number::Nothing;
-    }
-    if !is_digit(b) {
-        return Number::Read(value(48, 48, a), at + 1);
-    }
-    if a == 48 {
-        return Number::Nothing;
-    }
-    if !is_digit(c) {
-        return Number::Read(value(48, a, b), at + 2);
-    }
-    if !is_digit(d) {
-        return Number::Read(value(a, b, c), at + 3);
-    }
-    Number::Nothing
-}
-
-// The number that stands at a place of a line.
-fn number_at(line: &[u8], at: usize) -> Number
-    requires { at ≤ 32 }
-    ensures { result ≡ number_at line.now at }
-{
-    number_from(
-        byte_at(line, at),
-        byte_at(line, at + 1),
-        byte_at(line, at + 2),
-        byte_at(line, at + 3),
-        at,
-    )
-}
-
-// The number at a place, if the line ends with it.
-fn last_at(line: &[u8], at: usize) -> Number
-    requires { at ≤ 32 }
-    ensures { result ≡ last line.now (number_at line.now at) }
-{
-    let number = number_at(line, at);
-    match number {
-        Number::Read(p, next) => {
-            if next == line.len() {
-                Number::Read(p, next)
-            } else {
-                Number::Nothing
-            }
+    match line {
+        [b'0', rest @ ..] => Some((0, rest)),
+        [x @ b'1'..=b'9', rest @ ..] => {
+            let (n, rest) = longer(u32::from(*x - b'0'), rest);
+            Some(longer(n, rest))
         }
-        Number::Nothing => Number::Nothing,
+        _ => None,
     }
 }
 
-// A command of one number.
-fn of_one(letter: u8, number: Number) -> Command
-    ensures { result ≡ of_one letter number }
+// The number with which a line ends.
+fn last(line: &[u8]) -> Option<u32>
+    ensures { result ≡ last line.now }
 {
-    match number {
-        Number::Read(p, _) => match letter {
-            110 => Command::SetUp(p),
-            115 => Command::Step(p),
-            114 => Command::BeginRelease(p),
-            _ => Command::Malformed,
-        },
-        Number::Nothing => Command::Malformed,
-    }
-}
-
-// A command of two numbers.
-fn of_two(p: u32, number: Number) -> Command
-    ensures { result ≡ of_two p number }
-{
-    match number {
-        Number::Read(r, _) => Command::BeginAcquisition(p, r),
-        Number::Nothing => Command::Malformed,
-    }
-}
-
-// The command of two numbers, the first of which was read.
-fn parted_from(line: &[u8], first: Number) -> Command
-    requires { length line.now ≤ 16 }
-    ensures { result ≡ parted line.now first }
-{
-    match first {
-        Number::Read(p, next) => {
-            if line.len() <= next {
-                return Command::Malformed;
-            }
-            if line[next] != 32 {
-                return Command::Malformed;
-            }
-            of_two(p, last_at(line, next + 1))
-        }
-        Number::Nothing => Command::Malformed,
-    }
-}
-
-// A command by its letter and the byte after it.
-fn by_letter(letter: u8, space: u8, line: &[u8]) -> Command
-    requires { length line.now ≤ 16 }
-    ensures { result ≡ by_letter letter space line.now }
-{
-    if space != 32 {
-        return Command::Malformed;
-    }
-    if letter == 97 {
-        return parted_from(line, number_at(line, 2));
-    }
-    of_one(letter, last_at(line, 2))
+    let (n, rest) = number(line)?;
+    rest.is_empty().then_some(n)
 }
 
 // What a line asks for.
-pub fn parse(line: &[u8]) -> Command
+#[tactic(auto, unfolding(crate::specs::Command::command_of))]
+pub fn parse(line: &[u8]) -> Option<Command>
     ensures { result ≡ command_of line.now }
 {
     if 16 < line.len() {
-        return Command::Malformed;
+        return None;
     }
-    by_letter(byte_at(line, 0), byte_at(line, 1), line)
+    match line {
+        [b'n', b' ', rest @ ..] => Some(Command::SetUp(last(rest)?)),
+        [b'a', b' ', rest @ ..] => {
+            let (p, rest) = number(rest)?;
+            let [b' ', rest @ ..] = rest else {
+                return None;
+            };
+            Some(Command::BeginAcquisition(p, last(rest)?))
+        }
+        [b's', b' ', rest @ ..] => Some(Command::Step(last(rest)?)),
+        [b'r', b' ', rest @ ..] => Some(Command::BeginRelease(last(rest)?)),
+        _ => None,
+    }
 }
 
 // How many digits a number has.
