@@ -75,6 +75,7 @@ pub fn parse(line: &[u8]) -> Option<Command>
 }
 
 // How many digits a number has.
+#[tactic(auto, unfolding(crate::specs::Text::decimal))]
 fn digits(x: u8) -> usize
     ensures { (result ≡ length (decimal x)) × (result ≤ 3) }
 {
@@ -92,25 +93,13 @@ fn entries_fit(entries: &[u8], bytes: usize) -> bool
     ensures { result ≡ leb (length (entries_text entries.now)) bytes }
 {
     let mut left = bytes;
-    let mut i = 0;
-    while i < entries.len() {
-        let n = 1 + digits(entries[i]);
-        if left < n {
+    for &x in entries {
+        let Some(rest) = left.checked_sub(1 + digits(x)) else {
             return false;
-        }
-        left -= n;
-        i += 1;
+        };
+        left = rest;
     }
     true
-}
-
-// Puts one byte.
-fn put_byte(out: &mut [u8], at: usize, x: u8) -> usize
-    requires { at < length out.old }
-    ensures { Put (x ∷ []) out.old at result out.new }
-{
-    out[at] = x;
-    at + 1
 }
 
 // Puts bytes.
@@ -118,33 +107,24 @@ fn put_bytes(out: &mut [u8], at: usize, bytes: &[u8]) -> usize
     requires { at + length bytes.now ≤ length out.old }
     ensures { Put bytes.now out.old at result out.new }
 {
-    let mut next = at;
-    let mut i = 0;
-    while i < bytes.len() {
-        next = put_byte(out, next, bytes[i]);
-        i += 1;
-    }
+    let next = at + bytes.len();
+    out[at..next].copy_from_slice(bytes);
     next
 }
 
 // Puts a number.
+#[tactic(auto, unfolding(crate::specs::Text::decimal))]
 fn put_decimal(out: &mut [u8], at: usize, x: u8) -> usize
     requires { at + length (decimal x) ≤ length out.old }
     ensures { Put (decimal x) out.old at result out.new }
 {
     if x < 10 {
-        out[at] = 48 + x;
-        return at + 1;
+        return put_bytes(out, at, &[b'0' + x]);
     }
     if x < 100 {
-        out[at] = 48 + x / 10;
-        out[at + 1] = 48 + x % 10;
-        return at + 2;
+        return put_bytes(out, at, &[b'0' + x / 10, b'0' + x % 10]);
     }
-    out[at] = 48 + x / 100;
-    out[at + 1] = 48 + x / 10 % 10;
-    out[at + 2] = 48 + x % 10;
-    at + 3
+    put_bytes(out, at, &[b'0' + x / 100, b'0' + x / 10 % 10, b'0' + x % 10])
 }
 
 // Puts an entry, with a space in front.
@@ -152,7 +132,7 @@ fn put_entry(out: &mut [u8], at: usize, x: u8) -> usize
     requires { at + length (32 ∷ decimal x) ≤ length out.old }
     ensures { Put (32 ∷ decimal x) out.old at result out.new }
 {
-    let number = put_byte(out, at, 32);
+    let number = put_bytes(out, at, b" ");
     put_decimal(out, number, x)
 }
 
@@ -162,10 +142,8 @@ fn put_entries(out: &mut [u8], at: usize, entries: &[u8]) -> usize
     ensures { Put (entries_text entries.now) out.old at result out.new }
 {
     let mut next = at;
-    let mut i = 0;
-    while i < entries.len() {
-        next = put_entry(out, next, entries[i]);
-        i += 1;
+    for &x in entries {
+        next = put_entry(out, next, x);
     }
     next
 }
@@ -182,7 +160,7 @@ fn put_line(out: &mut [u8], at: usize, word: &[u8], x: u8) -> usize
     }
     let number = put_bytes(out, at, word);
     let newline = put_decimal(out, number, x);
-    put_byte(out, newline, 10)
+    put_bytes(out, newline, b"\n")
 }
 
 // Writes what a call says.
@@ -209,7 +187,7 @@ fn put_entries_line(out: &mut [u8], at: usize, entries: &[u8]) -> usize
 {
     let first = put_bytes(out, at, b"log");
     let end = put_entries(out, first, entries);
-    put_byte(out, end, 10)
+    put_bytes(out, end, b"\n")
 }
 
 // Writes the line of the log's entries.

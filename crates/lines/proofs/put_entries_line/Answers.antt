@@ -6,4 +6,4 @@ use Rattle.lines.proofs.put_entries_line.Goals as goal
 
 pub returns : goal.returns
 unfolding log_text
-returns c = line_written c.put_bytes-first.ensures c.put_entries-end.ensures c.put_byte.ensures
+returns c = line_written c.put_bytes-first.ensures c.put_entries-end.ensures c.put_bytes.ensures

@@ -11,4 +11,4 @@ pub returns-then-out-at-2 : goal.returns-then-out-at-2
 returns-then-out-at-2 c = line_unwritten _ _ _ _ (omega arith)
 
 pub returns : goal.returns
-returns c = line_written c.put_bytes-number.ensures c.put_decimal-newline.ensures c.put_byte.ensures
+returns c = line_written c.put_bytes-number.ensures c.put_decimal-newline.ensures c.put_bytes.ensures
