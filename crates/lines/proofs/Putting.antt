@@ -8,6 +8,7 @@ use native.Mathlib.Omega.{arith}
 use borrow.Author.Tests.{le-leb, lt-leb}
 use lib.Dec.{leb}
 use lib.ListN.{length, take, drop, set, take-append-drop, length-append, length-set}
+use Rattle.std.proofs.lemmas.List.{length-drop}
 use lib.Seq.{set_split, length-take-le, take_at, drop-append-add, drop-drop, append_snoc}
 use Rattle.lines.specs.Inside.{Put}
 use Rattle.lines.specs.Text.{line_text, fits, place_after, written, Writes}
@@ -94,17 +95,25 @@ unfolding fits place_after written
 no_room text out at is_full = record { answers = simp is_full; leaves = simp is_full }
 
 -- it has room, so it was put
-pub writes_put : {text out : List ℕ} {at r : ℕ} {out' : List ℕ} → at + length text ≤ length out → length out' ≡ length out → Writes text out at r out' → Put text out at r out'
+pub writes_put : {text out : List ℕ} {at r : ℕ} {out' : List ℕ} → at + length text ≤ length out → Writes text out at r out' → Put text out at r out'
 unfolding fits place_after written
-writes_put {text} {out} {at} {r} {out'} h same w =
+writes_put {text} {out} {at} {r} {out'} h w =
     let yes : leb (at + length text) (length out) ≡ true = le-leb _ _ h in
     let after : r ≡ at + length text = simp yes at w.answers in
+    let leaves : out' ≡ take at out ++ text ++ drop r out = (simp yes at w.leaves) ∙ ap (λ (k : ℕ). take at out ++ text ++ drop k out) (sym after) in
     record {
       after = after;
       room = omega arith;
-      same = same;
-      leaves = (simp yes at w.leaves) ∙ ap (λ (k : ℕ). take at out ++ text ++ drop k out) (sym after);
+      same = ap length leaves ∙ whole_length h after;
+      leaves = leaves;
     }
+  where
+    whole_length : at + length text ≤ length out → r ≡ at + length text → length (take at out ++ text ++ drop r out) ≡ length out
+    whole_length h after = omega (arith, length-append (take at out ++ text) (drop r out), length-append (take at out) text, length-take-le at out (omega arith), length-drop r out)
+
+-- what a buffer holds in the end is what it was left with
+pub put_left : {text out : List ℕ} {at r : ℕ} {out' out'' : List ℕ} → Put text out at r out' → out'' ≡ out' → Put text out at r out''
+put_left {text} {out} {at} {r} p e = subst⁻¹ (λ (l : List ℕ). Put text out at r l) e p
 
 -- a line that has no room
 pub line_unwritten : (word rest out : List ℕ) (at : ℕ) → length out < at + (length word + length rest + 1) → Writes (line_text word rest) out at at out
@@ -116,7 +125,7 @@ unfolding line_text
 line_written p q s = put_writes (put_then (put_then p q refl) s refl)
 
 -- what a short text leaves of the room
-pub room_left : {text out out' : List ℕ} {at r : ℕ} (most left : ℕ) → length text ≤ most → at + (most + left) ≤ length out → length out' ≡ length out → Writes text out at r out' → r + left ≤ length out'
-room_left {text} {out} {out'} {at} {r} most left short h same writes =
-    let put : Put text out at r out' = writes_put (omega arith) same writes in
-    omega (arith, put.after)
+pub room_left : {text out out' : List ℕ} {at r : ℕ} (most left : ℕ) → length text ≤ most → at + (most + left) ≤ length out → Writes text out at r out' → r + left ≤ length out'
+room_left {text} {out} {out'} {at} {r} most left short h writes =
+    let put : Put text out at r out' = writes_put (omega arith) writes in
+    omega (arith, put.after, put.same)

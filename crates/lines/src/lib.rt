@@ -1,7 +1,7 @@
 // The lines that the program `turns` reads and writes: what a line of input asks for, and the text of an answer. 01, "The program `turns`".
 #![tactic(auto)]
 
-ghost use Rattle.std.specs.Prelude.{◌≡◌, [], ◌∷◌, ◌+◌, ◌-◌, ◌*◌, ◌≤◌, ◌<◌, option_map, leb, length};
+ghost use Rattle.std.specs.Prelude.{◌≡◌, [], ◌∷◌, ◌++◌, ◌+◌, ◌-◌, ◌*◌, ◌≤◌, ◌<◌, option_map, leb, length};
 ghost use Rattle.lines.specs.Command.{longer, number, last, command_of};
 ghost use Rattle.lines.specs.Inside.{Put, read};
 ghost use Rattle.lines.specs.Text.{decimal, line_text, reply_text, lock_text, entries_text, log_text, Writes};
@@ -102,108 +102,125 @@ fn entries_fit(entries: &[u8], bytes: usize) -> bool
     true
 }
 
-// Puts bytes.
-fn put_bytes(out: &mut [u8], at: usize, bytes: &[u8]) -> usize
-    requires { at + length bytes.now ≤ length out.old }
-    ensures { Put bytes.now out.old at result out.new }
-{
-    let next = at + bytes.len();
-    out[at..next].copy_from_slice(bytes);
-    next
+// A text in a buffer, with the place after it, where the next is put.
+#[derive(Drop)]
+pub struct Text<'a> {
+    pub buffer: &'a mut [u8],
+    pub at: usize,
 }
 
-// Puts a number.
-#[tactic(auto, unfolding(crate::specs::Text::decimal))]
-fn put_decimal(out: &mut [u8], at: usize, x: u8) -> usize
-    requires { at + length (decimal x) ≤ length out.old }
-    ensures { Put (decimal x) out.old at result out.new }
-{
-    if x < 10 {
-        return put_bytes(out, at, &[b'0' + x]);
+impl Text<'_> {
+    // How many bytes have room.
+    fn room(&self) -> usize
+        ensures { result ≡ length self.now.buffer.now - self.now.at }
+    {
+        self.buffer.len().saturating_sub(self.at)
     }
-    if x < 100 {
-        return put_bytes(out, at, &[b'0' + x / 10, b'0' + x % 10]);
+
+    // Puts bytes.
+    fn put(&mut self, bytes: &[u8])
+        requires { self.old.at + length bytes.now ≤ length self.old.buffer.now }
+        ensures put { Put bytes.now self.old.buffer.now self.old.at self.new.at self.new.buffer.now }
+        ensures same_buffer { self.new.buffer.ghost_name ≡ self.old.buffer.ghost_name }
+    {
+        let next = self.at + bytes.len();
+        self.buffer[self.at..next].copy_from_slice(bytes);
+        self.at = next;
     }
-    put_bytes(out, at, &[b'0' + x / 100, b'0' + x / 10 % 10, b'0' + x % 10])
+
+    // Puts a number.
+    #[tactic(auto, unfolding(crate::specs::Text::decimal))]
+    fn put_decimal(&mut self, x: u8)
+        requires { self.old.at + length (decimal x) ≤ length self.old.buffer.now }
+        ensures put { Put (decimal x) self.old.buffer.now self.old.at self.new.at self.new.buffer.now }
+        ensures same_buffer { self.new.buffer.ghost_name ≡ self.old.buffer.ghost_name }
+    {
+        if x < 10 {
+            self.put(&[b'0' + x]);
+        } else if x < 100 {
+            self.put(&[b'0' + x / 10, b'0' + x % 10]);
+        } else {
+            self.put(&[b'0' + x / 100, b'0' + x / 10 % 10, b'0' + x % 10]);
+        }
+    }
+
+    // Puts an entry, with a space in front.
+    fn put_entry(&mut self, x: u8)
+        requires { self.old.at + length (32 ∷ decimal x) ≤ length self.old.buffer.now }
+        ensures put { Put (32 ∷ decimal x) self.old.buffer.now self.old.at self.new.at self.new.buffer.now }
+        ensures same_buffer { self.new.buffer.ghost_name ≡ self.old.buffer.ghost_name }
+    {
+        self.put(b" ");
+        self.put_decimal(x);
+    }
+
+    // Puts the entries of a log.
+    fn put_entries(&mut self, entries: &[u8])
+        requires { self.old.at + length (entries_text entries.now) ≤ length self.old.buffer.now }
+        ensures put { Put (entries_text entries.now) self.old.buffer.now self.old.at self.new.at self.new.buffer.now }
+        ensures same_buffer { self.new.buffer.ghost_name ≡ self.old.buffer.ghost_name }
+    {
+        for &x in entries {
+            self.put_entry(x);
+        }
+    }
+
+    // Writes a line of a word and a number.
+    fn put_line(&mut self, word: &[u8], x: u8)
+        ensures writes { Writes (line_text word.now (decimal x)) self.old.buffer.now self.old.at self.new.at self.new.buffer.now }
+        ensures same_buffer { self.new.buffer.ghost_name ≡ self.old.buffer.ghost_name }
+    {
+        if self.room() < word.len() + digits(x) + 1 {
+            return;
+        }
+        self.put(word);
+        self.put_decimal(x);
+        self.put(b"\n");
+    }
+
+    // Writes what a call says.
+    pub fn put_reply(&mut self, reply: Reply)
+        ensures writes { Writes (reply_text reply) self.old.buffer.now self.old.at self.new.at self.new.buffer.now }
+        ensures same_buffer { self.new.buffer.ghost_name ≡ self.old.buffer.ghost_name }
+    {
+        match reply {
+            Reply::Refused(k) => self.put_line(b"x ", k),
+            Reply::Answered(a) => self.put_line(b"", a.number),
+        }
+    }
+
+    // Writes the line of the lock word.
+    pub fn put_lock(&mut self, lock: u8)
+        ensures writes { Writes (lock_text lock) self.old.buffer.now self.old.at self.new.at self.new.buffer.now }
+        ensures same_buffer { self.new.buffer.ghost_name ≡ self.old.buffer.ghost_name }
+    {
+        self.put_line(b"lock ", lock);
+    }
+
+    // Writes the line of the log's entries.
+    pub fn put_log(&mut self, entries: &[u8])
+        ensures writes { Writes (log_text entries.now) self.old.buffer.now self.old.at self.new.at self.new.buffer.now }
+        ensures same_buffer { self.new.buffer.ghost_name ≡ self.old.buffer.ghost_name }
+    {
+        let Some(room) = self.room().checked_sub(4) else {
+            return;
+        };
+        if !entries_fit(entries, room) {
+            return;
+        }
+        self.put(b"log");
+        self.put_entries(entries);
+        self.put(b"\n");
+    }
 }
 
-// Puts an entry, with a space in front.
-fn put_entry(out: &mut [u8], at: usize, x: u8) -> usize
-    requires { at + length (32 ∷ decimal x) ≤ length out.old }
-    ensures { Put (32 ∷ decimal x) out.old at result out.new }
+// A caller.
+pub fn put_both(out: &mut [u8], lock: u8, entries: &[u8]) -> usize
+    requires { (1037 ≤ length out.old) × (length entries.now ≤ 256) }
+    ensures { Put (lock_text lock ++ log_text entries.now) out.old 0 result out.new }
 {
-    let number = put_bytes(out, at, b" ");
-    put_decimal(out, number, x)
-}
-
-// Puts the entries of a log.
-fn put_entries(out: &mut [u8], at: usize, entries: &[u8]) -> usize
-    requires { at + length (entries_text entries.now) ≤ length out.old }
-    ensures { Put (entries_text entries.now) out.old at result out.new }
-{
-    let mut next = at;
-    for &x in entries {
-        next = put_entry(out, next, x);
-    }
-    next
-}
-
-// Writes a line of a word and a number.
-fn put_line(out: &mut [u8], at: usize, word: &[u8], x: u8) -> usize
-    ensures { Writes (line_text word.now (decimal x)) out.old at result out.new }
-{
-    if out.len() < at {
-        return at;
-    }
-    if out.len() - at < word.len() + digits(x) + 1 {
-        return at;
-    }
-    let number = put_bytes(out, at, word);
-    let newline = put_decimal(out, number, x);
-    put_bytes(out, newline, b"\n")
-}
-
-// Writes what a call says.
-pub fn put_reply(out: &mut [u8], at: usize, reply: Reply) -> usize
-    ensures { Writes (reply_text reply) out.old at result out.new }
-{
-    match reply {
-        Reply::Refused(k) => put_line(out, at, b"x ", k),
-        Reply::Answered(a) => put_line(out, at, b"", a.number),
-    }
-}
-
-// Writes the line of the lock word.
-pub fn put_lock(out: &mut [u8], at: usize, lock: u8) -> usize
-    ensures { Writes (lock_text lock) out.old at result out.new }
-{
-    put_line(out, at, b"lock ", lock)
-}
-
-// Puts the line of the log's entries.
-fn put_entries_line(out: &mut [u8], at: usize, entries: &[u8]) -> usize
-    requires { at + (length (entries_text entries.now) + 4) ≤ length out.old }
-    ensures { Writes (log_text entries.now) out.old at result out.new }
-{
-    let first = put_bytes(out, at, b"log");
-    let end = put_entries(out, first, entries);
-    put_bytes(out, end, b"\n")
-}
-
-// Writes the line of the log's entries.
-pub fn put_log(out: &mut [u8], at: usize, entries: &[u8]) -> usize
-    ensures { Writes (log_text entries.now) out.old at result out.new }
-{
-    if out.len() < at {
-        return at;
-    }
-    let room = out.len() - at;
-    let is_short = room < 4;
-    if is_short {
-        return at;
-    }
-    if !entries_fit(entries, room - 4) {
-        return at;
-    }
-    put_entries_line(out, at, entries)
+    let mut text = Text { buffer: out, at: 0 };
+    text.put_lock(lock);
+    text.put_log(entries);
+    text.at
 }
