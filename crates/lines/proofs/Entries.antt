@@ -13,17 +13,14 @@ use Rattle.laws.proofs.Said.{said_no, said_yes}
 use Rattle.lines.specs.Text.{decimal, entries_text, log_text}
 use Rattle.lines.proofs.Texts.{decimal_short, line_length}
 
-module _ (said : Bool) (e n at : ℕ) (said_is : said ≡ leb e (n - at - 4)) (four : 4 ≤ n - at) where
-  pub had_room : not said ≡ false → at + (e + 4) ≤ n
-  had_room h = omega (arith, leb-true e (n - at - 4) (said_yes said (leb e (n - at - 4)) said_is h))
-
-  pub had_none : not said ≡ true → n < at + (3 + e + 1)
-  had_none h = omega (arith, leb-false e (n - at - 4) (said_no said (leb e (n - at - 4)) said_is h))
-
 appended : (s t : List ℕ) → entries_text (s ++ t) ≡ entries_text s ++ entries_text t
 unfolding entries_text
 appended [] t = refl
 appended (x ∷ s) t = ap (λ (l : List ℕ). (32 ∷ decimal x) ++ l) (appended s t) ∙ sym (append_assoc (32 ∷ decimal x) (entries_text s) (entries_text t))
+
+pub entries_none : entries_text [] ≡ []
+unfolding entries_text
+entries_none = refl
 
 module _ (l : List ℕ) (i : ℕ) (h : i < length l) where
   pub take_one_more : take (i + 1) l ≡ take i l ++ get_or l i 0 ∷ []
@@ -41,14 +38,17 @@ module _ (l : List ℕ) (i : ℕ) (h : i < length l) where
   pub entries_count : length (entries_text (take (i + 1) l)) ≡ length (entries_text (take i l)) + (1 + length (decimal (get_or l i 0)))
   entries_count = ap length entries_more ∙ length-append (entries_text (take i l)) (32 ∷ decimal (get_or l i 0)) ∙ omega arith
 
-  -- no longer than of them all
-  pub entries_within : length (entries_text (take (i + 1) l)) ≤ length (entries_text l)
+  -- which is no longer than of them all
+  pub entries_within : length (entries_text (take i l)) + (1 + length (decimal (get_or l i 0))) ≤ length (entries_text l)
   entries_within =
       omega (
         arith,
+        entries_count,
         ap length (ap entries_text (sym (take-append-drop (i + 1) l)) ∙ appended (take (i + 1) l) (drop (i + 1) l)),
         length-append (entries_text (take (i + 1) l)) (entries_text (drop (i + 1) l)),
       )
+
+pub ruleset entries = (entries_none, entries_count, entries_within)
 
 -- how long they are at most
 pub entries_short : (l : List ℕ) → length (entries_text l) ≤ 4 * length l

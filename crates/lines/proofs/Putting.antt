@@ -23,16 +23,6 @@ put_none out at h =
       leaves = sym (take-append-drop at out) ∙ ap (λ (l : List ℕ). l ++ drop at out) (sym (append-nil (take at out)));
     }
 
--- one byte
-pub put_one : (out : List ℕ) (at x : ℕ) → at < length out → Put (x ∷ []) out at (at + 1) (set out at x)
-put_one out at x h =
-    record {
-      after = refl;
-      room = omega arith;
-      same = length-set out at x;
-      leaves = set_split out at x h ∙ ap (λ (k : ℕ). take at out ++ x ∷ drop k out) (sym (add-one at)) ∙ sym (append_snoc (take at out) x (drop (at + 1) out));
-    }
-
 module _ {text out : List ℕ} {at r : ℕ} {out' : List ℕ} (p : Put text out at r out') where
   whole : length (take at out ++ text) ≡ r
   whole = length-append (take at out) text ∙ ap (λ (k : ℕ). k + length text) (length-take-le at out (omega (arith, p.after, p.room))) ∙ sym p.after
@@ -60,10 +50,6 @@ module _ {text out : List ℕ} {at r : ℕ} {out' : List ℕ} (p : Put text out 
             ∙ ap (λ (l : List ℕ). l ++ drop r'' out) (append_assoc (take at out) text more ∙ ap (λ (l : List ℕ). take at out ++ l) (sym all_is));
       }
 
-  -- one byte more after it
-  pub put_next : {all : List ℕ} (x : ℕ) → r < length out → all ≡ text ++ x ∷ [] → Put all out at (r + 1) (set out' r x)
-  put_next x h all_is = put_then (put_one out' r x (omega (arith, p.same))) all_is
-
   -- it had room, so that is what was to be written
   pub put_writes : Writes text out at r out'
   unfolding fits place_after written
@@ -73,14 +59,6 @@ module _ {text out : List ℕ} {at r : ℕ} {out' : List ℕ} (p : Put text out 
         answers = simp yes p.after;
         leaves = simp yes (p.leaves ∙ ap (λ (k : ℕ). take at out ++ text ++ drop k out) p.after);
       }
-
--- two and three bytes, stored one by one
-module _ (out : List ℕ) (at a b : ℕ) where
-  pub put_two : at + 2 ≤ length out → Put (a ∷ b ∷ []) out at (at + 2) (set (set out at a) (at + 1) b)
-  put_two h = subst (λ (k : ℕ). Put (a ∷ b ∷ []) out at k (set (set out at a) (at + 1) b)) (omega arith) (put_next (put_one out at a (omega arith)) b (omega arith) refl)
-
-  pub put_three : (x : ℕ) → at + 3 ≤ length out → Put (a ∷ b ∷ x ∷ []) out at (at + 3) (set (set (set out at a) (at + 1) b) (at + 2) x)
-  put_three x h = subst (λ (k : ℕ). Put (a ∷ b ∷ x ∷ []) out at k (set (set (set out at a) (at + 1) b) (at + 2) x)) (omega arith) (put_next (put_two (omega arith)) x (omega arith) refl)
 
 -- the same text
 pub put_same : {text text' out : List ℕ} {at r : ℕ} {out' : List ℕ} → text ≡ text' → Put text out at r out' → Put text' out at r out'

@@ -11,24 +11,11 @@ use Rattle.stage.specs.declared.Reply.TheVariants.{Refused, Answered}
 use Rattle.laws.proofs.Cases.{choose}
 use Rattle.lines.specs.Text.{decimal, line_text, reply_text, lock_text}
 
-module _ (x : ℕ) where
-  pub one_digit : x < 10 → decimal x ≡ (48 + x) ∷ []
-  unfolding decimal
-  one_digit h = simp (lt-ltb x 10 h)
-
-  pub two_digits : 10 ≤ x → x < 100 → decimal x ≡ (48 + x / 10) ∷ (48 + x % 10) ∷ []
-  unfolding decimal
-  two_digits h g = simp (le-ltb x 10 h, lt-ltb x 100 g)
-
-  pub three_digits : 100 ≤ x → decimal x ≡ (48 + x / 100) ∷ (48 + x / 10 % 10) ∷ (48 + x % 10) ∷ []
-  unfolding decimal
-  three_digits h = simp (le-ltb x 10 (omega arith), le-ltb x 100 h)
-
-  pub decimal_short : length (decimal x) ≤ 3
-  unfolding decimal
-  decimal_short =
-      choose (λ (l : List ℕ). length l ≤ 3) (ltb x 10) (λ e. omega arith)
-      (λ e. choose (λ (l : List ℕ). length l ≤ 3) (ltb x 100) (λ f. omega arith) (λ f. omega arith))
+pub decimal_short : (x : ℕ) → length (decimal x) ≤ 3
+unfolding decimal
+decimal_short x =
+    choose (λ (l : List ℕ). length l ≤ 3) (ltb x 10) (λ e. omega arith)
+    (λ e. choose (λ (l : List ℕ). length l ≤ 3) (ltb x 100) (λ f. omega arith) (λ f. omega arith))
 
 pub line_length : (word rest : List ℕ) → length (line_text word rest) ≡ length word + length rest + 1
 unfolding line_text

@@ -1,7 +1,7 @@
 // The lines that the program `turns` reads and writes: what a line of input asks for, and the text of an answer. 01, "The program `turns`".
 #![tactic(auto)]
 
-ghost use Rattle.std.specs.Prelude.{◌≡◌, [], ◌∷◌, ◌++◌, ◌+◌, ◌-◌, ◌*◌, ◌≤◌, ◌<◌, option_map, leb, length};
+ghost use Rattle.std.specs.Prelude.{◌≡◌, ◌+◌, ◌-◌, ◌*◌, ◌≤◌, ◌<◌, SomeIff, option_map, length};
 ghost use Rattle.lines.specs.Command.{longer, number, last, command_of};
 ghost use Rattle.lines.specs.Inside.{Put, read};
 ghost use Rattle.lines.specs.Text.{decimal, line_text, reply_text, lock_text, entries_text, log_text, Writes};
@@ -79,27 +79,23 @@ pub fn parse(line: &[u8]) -> Option<Command>
 fn digits(x: u8) -> usize
     ensures { (result ≡ length (decimal x)) × (result ≤ 3) }
 {
-    if x < 10 {
-        return 1;
+    match x {
+        0..=9 => 1,
+        10..=99 => 2,
+        _ => 3,
     }
-    if x < 100 {
-        return 2;
-    }
-    3
 }
 
-// Whether the entries of a log have room in so many bytes.
-fn entries_fit(entries: &[u8], bytes: usize) -> bool
-    ensures { result ≡ leb (length (entries_text entries.now)) bytes }
+// What the entries of a log leave of so many bytes, if they have room there.
+#[tactic(auto, using(crate::proofs::Entries::entries))]
+fn left_by(entries: &[u8], bytes: usize) -> Option<usize>
+    ensures { SomeIff result (length (entries_text entries.now) ≤ bytes) (bytes - length (entries_text entries.now)) }
 {
     let mut left = bytes;
     for &x in entries {
-        let Some(rest) = left.checked_sub(1 + digits(x)) else {
-            return false;
-        };
-        left = rest;
+        left = left.checked_sub(1 + digits(x))?;
     }
-    true
+    Some(left)
 }
 
 // A text in a buffer, with the place after it, where the next is put.
@@ -135,33 +131,23 @@ impl Text<'_> {
         ensures put { Put (decimal x) self.old.buffer.now self.old.at self.new.at self.new.buffer.now }
         ensures same_buffer { self.new.buffer.ghost_name ≡ self.old.buffer.ghost_name }
     {
-        if x < 10 {
-            self.put(&[b'0' + x]);
-        } else if x < 100 {
-            self.put(&[b'0' + x / 10, b'0' + x % 10]);
-        } else {
-            self.put(&[b'0' + x / 100, b'0' + x / 10 % 10, b'0' + x % 10]);
+        match x {
+            0..=9 => self.put(&[b'0' + x]),
+            10..=99 => self.put(&[b'0' + x / 10, b'0' + x % 10]),
+            _ => self.put(&[b'0' + x / 100, b'0' + x / 10 % 10, b'0' + x % 10]),
         }
     }
 
-    // Puts an entry, with a space in front.
-    fn put_entry(&mut self, x: u8)
-        requires { self.old.at + length (32 ∷ decimal x) ≤ length self.old.buffer.now }
-        ensures put { Put (32 ∷ decimal x) self.old.buffer.now self.old.at self.new.at self.new.buffer.now }
-        ensures same_buffer { self.new.buffer.ghost_name ≡ self.old.buffer.ghost_name }
-    {
-        self.put(b" ");
-        self.put_decimal(x);
-    }
-
-    // Puts the entries of a log.
+    // Puts the entries of a log, each with a space in front.
+    #[tactic(auto, using(crate::proofs::Entries::entries, crate::proofs::Putting::put_none))]
     fn put_entries(&mut self, entries: &[u8])
         requires { self.old.at + length (entries_text entries.now) ≤ length self.old.buffer.now }
         ensures put { Put (entries_text entries.now) self.old.buffer.now self.old.at self.new.at self.new.buffer.now }
         ensures same_buffer { self.new.buffer.ghost_name ≡ self.old.buffer.ghost_name }
     {
         for &x in entries {
-            self.put_entry(x);
+            self.put(b" ");
+            self.put_decimal(x);
         }
     }
 
@@ -179,6 +165,7 @@ impl Text<'_> {
     }
 
     // Writes what a call says.
+    #[tactic(auto, unfolding(crate::specs::Text::reply_text))]
     pub fn put_reply(&mut self, reply: Reply)
         ensures writes { Writes (reply_text reply) self.old.buffer.now self.old.at self.new.at self.new.buffer.now }
         ensures same_buffer { self.new.buffer.ghost_name ≡ self.old.buffer.ghost_name }
@@ -190,6 +177,7 @@ impl Text<'_> {
     }
 
     // Writes the line of the lock word.
+    #[tactic(auto, unfolding(crate::specs::Text::lock_text))]
     pub fn put_lock(&mut self, lock: u8)
         ensures writes { Writes (lock_text lock) self.old.buffer.now self.old.at self.new.at self.new.buffer.now }
         ensures same_buffer { self.new.buffer.ghost_name ≡ self.old.buffer.ghost_name }
@@ -202,25 +190,11 @@ impl Text<'_> {
         ensures writes { Writes (log_text entries.now) self.old.buffer.now self.old.at self.new.at self.new.buffer.now }
         ensures same_buffer { self.new.buffer.ghost_name ≡ self.old.buffer.ghost_name }
     {
-        let Some(room) = self.room().checked_sub(4) else {
+        let Some(4..) = left_by(entries, self.room()) else {
             return;
         };
-        if !entries_fit(entries, room) {
-            return;
-        }
         self.put(b"log");
         self.put_entries(entries);
         self.put(b"\n");
     }
-}
-
-// A caller.
-pub fn put_both(out: &mut [u8], lock: u8, entries: &[u8]) -> usize
-    requires { (1037 ≤ length out.old) × (length entries.now ≤ 256) }
-    ensures { Put (lock_text lock ++ log_text entries.now) out.old 0 result out.new }
-{
-    let mut text = Text { buffer: out, at: 0 };
-    text.put_lock(lock);
-    text.put_log(entries);
-    text.at
 }

@@ -1,7 +1,6 @@
--- `put_log` writes where the entries have room, with the four bytes of `log` and the newline.
+-- `put_log` writes where the entries leave room for the four bytes of `log` and the newline.
 -- Assumes nothing.
 use native.Mathlib.Omega.{arith}
-use Rattle.std.proofs.lemmas.Bool.Decides.{nat_tests}
 use Rattle.lines.specs.Text.{log_text}
 use Rattle.lines.proofs.Putting.{line_unwritten, line_written}
 use Rattle.lines.proofs.Text.put_log.Goals as goal
@@ -10,9 +9,9 @@ pub returns-in_default-clause-writes : goal.returns-in_default-clause-writes
 unfolding log_text
 returns-in_default-clause-writes c = line_unwritten _ _ _ _ (omega (arith, c.in_default.ensures))
 
-pub returns-then-not-entries_fit-clause-writes : goal.returns-then-not-entries_fit-clause-writes
+pub returns-in_default-2-clause-writes : goal.returns-in_default-2-clause-writes
 unfolding log_text
-returns-then-not-entries_fit-clause-writes c = line_unwritten _ _ _ _ (grind (arith, nat_tests, c.in-Some.ensures, c.if-not-entries_fit.true, c.entries_fit.ensures))
+returns-in_default-2-clause-writes c = line_unwritten _ _ _ _ (omega (arith, c.in_default.ensures))
 
 pub returns-clause-writes : goal.returns-clause-writes
 unfolding log_text
