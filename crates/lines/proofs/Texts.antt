@@ -8,18 +8,16 @@ use lib.Dec.{ltb}
 use lib.ListN.{length, length-append}
 use Rattle.stage.specs.declared.Reply.{Reply}
 use Rattle.stage.specs.declared.Reply.TheVariants.{Refused, Answered}
-use Rattle.laws.proofs.Cases.{choose}
+use Rattle.std.proofs.lemmas.Bool.Decides.{nat_tests}
 use Rattle.lines.specs.Text.{decimal, line_text, reply_text, lock_text}
 
 pub decimal_short : (x : ℕ) → length (decimal x) ≤ 3
 unfolding decimal
-decimal_short x =
-    choose (λ (l : List ℕ). length l ≤ 3) (ltb x 10) (λ e. omega arith)
-    (λ e. choose (λ (l : List ℕ). length l ≤ 3) (ltb x 100) (λ f. omega arith) (λ f. omega arith))
+decimal_short x = grind (arith, nat_tests)
 
 pub line_length : (word rest : List ℕ) → length (line_text word rest) ≡ length word + length rest + 1
 unfolding line_text
-line_length word rest = length-append (word ++ rest) (10 ∷ []) ∙ ap (λ (k : ℕ). k + 1) (length-append word rest)
+line_length word rest = simp length-append
 
 pub reply_short : (r : Reply) → length (reply_text r) ≤ 6
 unfolding reply_text

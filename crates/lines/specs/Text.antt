@@ -1,6 +1,7 @@
 -- What is written. Document 01, "The program `turns`": "Each command prints its answer number, or `x` and a space and the refusal. At the end of input come
 -- `lock` with the lock word and `log` with the held entries, blank-parted; an empty log prints `log` alone".
 use Rattle.std.specs.Prelude.{ℕ, ◌+◌, ◌/◌, ◌%◌, ◌≡◌, Bool, cond, List, [], ◌∷◌, ◌++◌, leb, ltb, length, take, drop}
+use Rattle.std.specs.List.{flat_map}
 use Rattle.stage.specs.declared.Reply.{Reply}
 use Rattle.stage.specs.declared.Reply.TheVariants.{Refused, Answered}
 
@@ -25,9 +26,8 @@ unfoldable pub lock_text : ℕ → List ℕ
 lock_text k = line_text (108 ∷ 111 ∷ 99 ∷ 107 ∷ 32 ∷ []) (decimal k)
 
 -- each entry with a space in front
-unfoldable pub entries_text : List ℕ → List ℕ
-entries_text [] = []
-entries_text (x ∷ others) = (32 ∷ decimal x) ++ entries_text others
+abbrev pub entries_text : List ℕ → List ℕ
+entries_text l = flat_map (λ x. 32 ∷ decimal x) l
 
 -- "log" and the entries
 unfoldable pub log_text : List ℕ → List ℕ
