@@ -17,9 +17,6 @@ use Rattle.lines.specs.Inside.{Put}
 use Rattle.lines.specs.Text.{line_text, fits, place_after, written, Writes}
 use Rattle.lines.proofs.Texts.{line_length}
 
-pub put_none : (out : List ℕ) (at : ℕ) → at ≤ length out → Put [] out at at out
-put_none out at h = record { after = omega arith; room = h; same = refl; leaves = grind (arith, common_steps) }
-
 module _ {text out : List ℕ} {at r : ℕ} {out' : List ℕ} (p : Put text out at r out') where
   -- all up to the place after it
   pub front : take r out' ≡ take at out ++ text

@@ -1,4 +1,5 @@
--- What private functions, of this crate and of `turning`, say of what they write. No public contract cites this file.
+-- What private functions, of this crate and of `turning`, say of what they write, and those of this crate of what they read. No public contract cites this
+-- file.
 use Rattle.std.specs.Prelude.{ℕ, ◌+◌, ◌≤◌, ◌≡◌, List, ◌++◌, Option, Some, None, length, take, drop}
 use Rattle.std.specs.Borrow.{Bor}
 

@@ -139,7 +139,7 @@ impl Text<'_> {
     }
 
     // Puts the entries of a log, each with a space in front.
-    #[tactic(auto, using(crate::proofs::Putting::put_none, crate::proofs::Entries::entries_within))]
+    #[tactic(auto, using(crate::proofs::Entries::entries_within))]
     fn put_entries(&mut self, entries: &[u8])
         requires { self.old.at + length (entries_text entries.now) ≤ length self.old.buffer.now }
         ensures put { Put (entries_text entries.now) self.old.buffer.now self.old.at self.new.at self.new.buffer.now }
