@@ -7,6 +7,7 @@ use lib.ListN.{length, take, drop, get_or, take-append-drop, length-append}
 use Rattle.std.proofs.lemmas.List.{take_more}
 use Rattle.std.proofs.lemmas.List.Folds.{length-flat_map-take}
 use Rattle.std.proofs.lemmas.Grind.{common_steps}
+use Rattle.std.specs.Prelude.{codes}
 use Rattle.lines.specs.Text.{decimal, entries_text, log_text}
 use Rattle.lines.proofs.Texts.{decimal_short, line_length}
 
@@ -26,4 +27,4 @@ entries_short (x ∷ l) = omega (arith, entries_short l, decimal_short x, length
 
 pub log_short : (l : List ℕ) → length (log_text l) ≤ 4 * length l + 4
 unfolding log_text
-log_short l = omega (arith, entries_short l, line_length (108 ∷ 111 ∷ 103 ∷ []) (entries_text l))
+log_short l = omega (arith, entries_short l, line_length (codes "log") (entries_text l))

@@ -9,6 +9,7 @@ use lib.ListN.{length, length-append}
 use Rattle.stage.specs.declared.Reply.{Reply}
 use Rattle.stage.specs.declared.Reply.TheVariants.{Refused, Answered}
 use Rattle.std.proofs.lemmas.Bool.Decides.{nat_tests}
+use Rattle.std.specs.Prelude.{codes}
 use Rattle.lines.specs.Text.{decimal, line_text, reply_text, lock_text}
 
 pub decimal_short : (x : ℕ) → length (decimal x) ≤ 3
@@ -26,4 +27,4 @@ reply_short (Answered a) = omega (arith, decimal_short a.number, line_length [] 
 
 pub lock_short : (k : ℕ) → length (lock_text k) ≤ 9
 unfolding lock_text
-lock_short k = omega (arith, decimal_short k, line_length (108 ∷ 111 ∷ 99 ∷ 107 ∷ 32 ∷ []) (decimal k))
+lock_short k = omega (arith, decimal_short k, line_length (codes "lock ") (decimal k))

@@ -1,6 +1,6 @@
 -- What is written. Document 01, "The program `turns`": "Each command prints its answer number, or `x` and a space and the refusal. At the end of input come
 -- `lock` with the lock word and `log` with the held entries, blank-parted; an empty log prints `log` alone".
-use Rattle.std.specs.Prelude.{ℕ, ◌+◌, ◌/◌, ◌%◌, ◌≡◌, Bool, cond, List, [], ◌∷◌, ◌++◌, leb, ltb, length, take, drop}
+use Rattle.std.specs.Prelude.{ℕ, ◌+◌, ◌/◌, ◌%◌, ◌≡◌, Bool, cond, List, [], ◌∷◌, ◌++◌, leb, ltb, length, take, drop, codes}
 use Rattle.std.specs.List.{flat_map}
 use Rattle.stage.specs.declared.Reply.{Reply}
 use Rattle.stage.specs.declared.Reply.TheVariants.{Refused, Answered}
@@ -23,7 +23,7 @@ reply_text (Answered a) = line_text [] (decimal a.number)
 
 -- "lock", a space and the lock word
 unfoldable pub lock_text : ℕ → List ℕ
-lock_text k = line_text (108 ∷ 111 ∷ 99 ∷ 107 ∷ 32 ∷ []) (decimal k)
+lock_text k = line_text (codes "lock ") (decimal k)
 
 -- each entry with a space in front
 abbrev pub entries_text : List ℕ → List ℕ
@@ -31,7 +31,7 @@ entries_text l = flat_map (λ x. 32 ∷ decimal x) l
 
 -- "log" and the entries
 unfoldable pub log_text : List ℕ → List ℕ
-log_text l = line_text (108 ∷ 111 ∷ 103 ∷ []) (entries_text l)
+log_text l = line_text (codes "log") (entries_text l)
 
 -- Where a text has room in a buffer from the place `at` on, it is put there and the place after it is answered. Where it has none, nothing is written and `at`
 -- is answered back.
