@@ -1,18 +1,11 @@
--- What a line asks for, told by places of the line and the bytes there, as it was told at first. It is the same command for every line. Assumes nothing.
-use mathlib.Core.Path.{◌≡◌, refl, sym, ◌∙◌, ap}
-use mathlib.Core.Bool.{Bool, true, false, cond, not, ◌&&◌}
-use mathlib.Core.List.{List, [], ◌∷◌}
-use mathlib.Core.Logic.{◌⊎◌, inl, inr}
-use Prim.Native.Nat.{ℕ, ◌+◌, ◌-◌, ◌*◌, ◌≤◌, ◌<◌}
-use Rattle.std.proofs.Common.{add-zero}
-use native.Mathlib.Omega.{arith}
-use lib.Dec.{eqb, leb, ltb}
-use lib.ListN.{length, get_or, drop, get_or-eq_default, drop_of_length-le}
-use lib.Seq.{drop-drop}
-use Rattle.std.proofs.lemmas.List.{get_or-drop, length-drop, drop_more}
-use Rattle.laws.proofs.Cases.{cond_map, below}
-use Rattle.std.specs.Prelude.{Option, Some, None, option_and_then, option_map}
+-- What a line asks for as it was told before: by places in the line and the bytes there, here with `None` for a malformed line and for no number. It is the
+-- same command for every line. Assumes nothing.
+use Rattle.std.proofs.Common.{◌≡◌, ℕ, ◌+◌, ◌-◌, ◌*◌, ◌≤◌, ◌<◌, true, cond, not, eqb, ltb, ◌⊎◌, inl, inr, List, [], ◌∷◌, length, get_or, drop, Option, Some, None, option_and_then, option_map, refl, sym, ◌∙◌, ap, add-zero, arith}
 use Rattle.std.proofs.lemmas.Bool.Decides.{nat_tests}
+use Rattle.std.proofs.lemmas.List.{get_or-drop, length-drop, drop_more, drop_all}
+use lib.ListN.{get_or-eq_default}
+use lib.Seq.{drop-drop}
+use Rattle.laws.proofs.Cases.{cond_map, below}
 use Rattle.lines.specs.declared.Command.{Command}
 use Rattle.lines.specs.declared.Command.TheVariants.{SetUp, BeginAcquisition, BeginRelease, Step}
 use Rattle.lines.specs.Command as now
@@ -143,7 +136,7 @@ module _ (l : List ℕ) where
     where
       by : (p < length l) ⊎ (length l ≤ p) → cond (eqb (byte l p) 32) (of_two n (last l (number_at l (p + 1)))) None ≡ now.second n (drop p l)
       by (inl h) = rw (drop_more l p 0 h, two_of, same_last (p + 1) (omega arith)) refl
-      by (inr h) = rw (drop_of_length-le l {i = p} h, get_or-eq_default l 0 h) refl
+      by (inr h) = rw (drop_all p l h, get_or-eq_default l 0 h) refl
 
   parts : (o : Option (ℕ × ℕ)) → parted l o ≡ option_and_then (λ p. after p.0 p.1) o
   unfolding parted after

@@ -1,18 +1,12 @@
 -- What was put, piece by piece, and a text that has room or none. Assumes nothing.
-use mathlib.Core.Path.{◌≡◌, refl, sym, ◌∙◌, ap, ap₂, subst, subst⁻¹}
-use mathlib.Core.Bool.{true, false}
-use mathlib.Core.List.{List, [], ◌∷◌, ◌++◌, append_assoc, append-nil}
+use mathlib.Core.Path.{◌≡◌, refl, ◌∙◌, ap, subst, subst⁻¹}
+use mathlib.Core.List.{List, [], ◌∷◌, ◌++◌, append_assoc}
 use Prim.Native.Nat.{ℕ, ◌+◌, ◌≤◌, ◌<◌}
-use native.Mathlib.Numerals.{add-one}
 use native.Mathlib.Omega.{arith}
-use borrow.Author.Rules.{rules}
-use borrow.Author.Tests.{le-leb, lt-leb}
-use lib.Dec.{leb}
-use lib.ListN.{length, take, drop, set, take-append-drop, length-append, length-set}
-use Rattle.std.proofs.lemmas.List.{length-drop}
+use lib.ListN.{length, take, drop, length-append}
 use Rattle.std.proofs.lemmas.Grind.{common_steps}
 use Rattle.std.proofs.lemmas.Bool.Decides.{nat_tests}
-use lib.Seq.{set_split, length-take-le, take_at, drop-append-add, drop-drop, append_snoc}
+use lib.Seq.{drop-drop}
 use Rattle.lines.specs.Inside.{Put}
 use Rattle.lines.specs.Text.{line_text, fits, place_after, written, Writes}
 use Rattle.lines.proofs.Texts.{line_length}

@@ -5,6 +5,7 @@ use Rattle.std.specs.Prelude.{ℕ, ◌+◌, ◌-◌, ◌*◌, Bool, cond, ◌&&�
 use Rattle.lines.specs.declared.Command.{Command}
 use Rattle.lines.specs.declared.Command.TheVariants.{SetUp, BeginAcquisition, BeginRelease, Step}
 
+-- `0` is 48, and `9` is 57
 abbrev pub digit : ℕ → Bool
 digit x = leb 48 x && leb x 57
 
@@ -22,12 +23,12 @@ number (x ∷ l) = cond (eqb x 48) (Some (0, l)) (cond (digit x) (let two = long
 abbrev pub last : List ℕ → Option ℕ
 last l = option_and_then (λ p. cond (eqb (length p.1) 0) (Some p.0) None) (number l)
 
--- after the first number, p, stand a space and the second, with which the line ends
+-- after the first number, p, stand a space, which is 32, and the second, with which the line ends
 abbrev pub second : ℕ → List ℕ → Option Command
 second p [] = None
 second p (x ∷ l) = cond (eqb x 32) (option_map (BeginAcquisition p) (last l)) None
 
--- by the letter, with the line after the letter and a space: a has two numbers
+-- by the letter, with the line after it and a space: n, a, s and r are 110, 97, 115 and 114, and a has two numbers
 abbrev pub by_letter : ℕ → List ℕ → Option Command
 by_letter letter l =
     cond (eqb letter 110) (option_map SetUp (last l))

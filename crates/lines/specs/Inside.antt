@@ -1,6 +1,6 @@
 -- What private functions, of this crate and of `turning`, say of what they write, and those of this crate of what they read. No public contract cites this
 -- file.
-use Rattle.std.specs.Prelude.{ℕ, ◌+◌, ◌≤◌, ◌≡◌, List, ◌++◌, Option, Some, None, length, take, drop}
+use Rattle.std.specs.Prelude.{ℕ, ◌+◌, ◌≤◌, ◌≡◌, List, ◌++◌, length, take, drop}
 use Rattle.std.specs.Borrow.{Bor}
 
 -- the text had room from the place `at` on and was put there; r is the place after it
