@@ -39,9 +39,9 @@ module _ {text out : List ℕ} {at r : ℕ} {out' : List ℕ} (p : Put text out 
 pub put_same : {text text' out : List ℕ} {at r : ℕ} {out' : List ℕ} → text ≡ text' → Put text out at r out' → Put text' out at r out'
 put_same {out = out} {at} {r} {out'} e p = subst (λ (l : List ℕ). Put l out at r out') e p
 
--- what a buffer holds in the end is what it was left with
-pub put_left : {text out : List ℕ} {at r : ℕ} {out' out'' : List ℕ} → Put text out at r out' → out'' ≡ out' → Put text out at r out''
-put_left {text} {out} {at} {r} p e = subst⁻¹ (λ (l : List ℕ). Put text out at r l) e p
+-- a buffer that a `Text` had holds what was left there
+pub writes_left : {text out : List ℕ} {at r : ℕ} {out' out'' : List ℕ} → Writes text out at r out' → out'' ≡ out' → Writes text out at r out''
+writes_left {text} {out} {at} {r} w e = subst⁻¹ (λ (l : List ℕ). Writes text out at r l) e w
 
 -- it has room, so it was put
 pub writes_put : {text out : List ℕ} {at r : ℕ} {out' : List ℕ} → at + length text ≤ length out → Writes text out at r out' → Put text out at r out'
