@@ -29,7 +29,7 @@ fn longer(n: u32, line: &[u8]) -> (u32, &[u8])
     }
 }
 
-// The number at the front of a line, and the rest of the line: `0`, or one to three digits that do not begin with it.
+// The number at the front of a line, and the rest of the line. It is `0`, or has one to three digits of which the first is not `0`.
 fn number(line: &[u8]) -> Option<(u32, &[u8])>
     ensures { option_map read result ≡ number line.now }
 {
@@ -98,7 +98,8 @@ fn left_by(entries: &[u8], bytes: usize) -> Option<usize>
     Some(left)
 }
 
-// A text in a buffer, with the place after it, where the next is put.
+// A text in a buffer, with the place after it, where the next is put. What writes says that the buffer is the same one as before: so whoever lent it
+// knows what it holds in the end.
 #[derive(Drop)]
 pub struct Text<'a> {
     pub buffer: &'a mut [u8],
@@ -185,7 +186,7 @@ impl Text<'_> {
         self.put_line(b"lock ", lock);
     }
 
-    // Writes the line of the log's entries.
+    // Writes the line of the log's entries, if they leave room for the four bytes of `log` and the newline.
     pub fn put_log(&mut self, entries: &[u8])
         ensures writes { Writes (log_text entries.now) self.old.buffer.now self.old.at self.new.at self.new.buffer.now }
         ensures same_buffer { self.new.buffer.ghost_name ≡ self.old.buffer.ghost_name }
