@@ -1,6 +1,6 @@
 -- What a line asks for as it was told before: by places in the line and the bytes there, here with `None` for a malformed line and for no number. It is the
--- same command for every line. Assumes nothing.
-use Rattle.std.proofs.Common.{◌≡◌, ℕ, ◌+◌, ◌-◌, ◌*◌, ◌≤◌, ◌<◌, true, cond, not, eqb, ltb, ◌⊎◌, inl, inr, List, [], ◌∷◌, length, get_or, drop, Option, Some, None, option_and_then, option_map, refl, sym, ◌∙◌, ap, add-zero, arith}
+-- same command for every line. At the end the words of what is written, by their bytes, and the text of the entries, entry by entry. Assumes nothing.
+use Rattle.std.proofs.Common.{◌≡◌, ℕ, ◌+◌, ◌-◌, ◌*◌, ◌≤◌, ◌<◌, true, cond, not, eqb, ltb, ◌⊎◌, inl, inr, List, [], ◌∷◌, ◌++◌, length, get_or, drop, Option, Some, None, option_and_then, option_map, refl, sym, ◌∙◌, ap, add-zero, arith}
 use Rattle.std.proofs.lemmas.Bool.Decides.{nat_tests}
 use Rattle.std.proofs.lemmas.List.{get_or-drop, length-drop, drop_more, drop_all}
 use lib.ListN.{get_or-eq_default}
@@ -10,6 +10,7 @@ use Rattle.lines.specs.declared.Command.{Command}
 use Rattle.lines.specs.declared.Command.TheVariants.{SetUp, BeginAcquisition, BeginRelease, Step}
 use Rattle.lines.specs.Command as now
 use Rattle.lines.specs.Command.{digit}
+use Rattle.lines.specs.Text.{decimal, line_text, lock_text, entries_text, log_text}
 
 -- the byte at a place; past the end there is none, and 0 stands for it, which is no digit, space or letter
 abbrev byte : List ℕ → ℕ → ℕ
@@ -171,3 +172,15 @@ same_spaced (letter ∷ x ∷ m) = same_letter letter x m
 pub same_command : (l : List ℕ) → now.command_of l ≡ command_of l
 unfolding now.command_of command_of
 same_command l = ap (cond (ltb 16 (length l)) None) (same_spaced l)
+
+-- what is written is what was told before
+pub same_lock : (k : ℕ) → lock_text k ≡ line_text (108 ∷ 111 ∷ 99 ∷ 107 ∷ 32 ∷ []) (decimal k)
+unfolding lock_text
+same_lock k = refl
+
+pub same_log : (l : List ℕ) → log_text l ≡ line_text (108 ∷ 111 ∷ 103 ∷ []) (entries_text l)
+unfolding log_text
+same_log l = refl
+
+pub same_entries : (entries_text [] ≡ []) × ((x : ℕ) (others : List ℕ) → entries_text (x ∷ others) ≡ (32 ∷ decimal x) ++ entries_text others)
+same_entries = (refl, λ x others. refl)
