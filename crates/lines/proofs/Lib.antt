@@ -1,3 +1,4 @@
+pub mod Before
 pub mod Entries
 pub mod Putting
 pub mod Texts

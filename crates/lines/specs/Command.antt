@@ -1,65 +1,48 @@
 -- What a line of input asks for. Document 01, "The program `turns`": "one command a line: `n N` set up, `a P R` begin acquisition, `s P` step, `r P`
 -- begin release. Fields are parted by one space; numbers are decimal, 1 to 3 digits, no leading zero but `0` itself. A line over 16 bytes, an empty
 -- line and anything else are malformed".
-use Rattle.std.specs.Prelude.{ℕ, ◌+◌, ◌-◌, ◌*◌, Bool, cond, not, ◌&&◌, List, eqb, leb, ltb, length, get_or}
+use Rattle.std.specs.Prelude.{ℕ, ◌+◌, ◌-◌, ◌*◌, Bool, cond, ◌&&◌, List, [], ◌∷◌, Option, Some, None, option_and_then, option_map, eqb, leb, ltb, length}
 use Rattle.lines.specs.declared.Command.{Command}
-use Rattle.lines.specs.declared.Command.TheVariants.{SetUp, BeginAcquisition, BeginRelease, Step, Malformed}
-use Rattle.lines.specs.declared.Number.{Number}
-use Rattle.lines.specs.declared.Number.TheVariants.{Read, Nothing}
+use Rattle.lines.specs.declared.Command.TheVariants.{SetUp, BeginAcquisition, BeginRelease, Step}
 
--- the byte at a place; past the end there is none, and 0 stands for it, which is no digit, space or letter
-abbrev pub byte : List ℕ → ℕ → ℕ
-byte l at = get_or l at 0
-
+-- `0` is 48, and `9` is 57
 abbrev pub digit : ℕ → Bool
 digit x = leb 48 x && leb x 57
 
--- the number of the digits a, b and c
-abbrev pub value : ℕ → ℕ → ℕ → ℕ
-value a b c = 100 * (a - 48) + 10 * (b - 48) + (c - 48)
+-- a number with one digit more, if the line begins with one, and the line after it
+abbrev pub longer : ℕ → List ℕ → ℕ × List ℕ
+longer n [] = (n, [])
+longer n (x ∷ l) = cond (digit x) (10 * n + (x - 48), l) (n, x ∷ l)
 
--- "numbers are decimal, 1 to 3 digits, no leading zero but `0` itself": what is read where the bytes a, b, c and d stand, a at the place `at`
-unfoldable pub number_from : ℕ → ℕ → ℕ → ℕ → ℕ → Number
-number_from a b c d at =
-    cond (not (digit a)) Nothing
-    (cond (not (digit b)) (Read (value 48 48 a) (at + 1))
-    (cond (eqb a 48) Nothing
-    (cond (not (digit c)) (Read (value 48 a b) (at + 2))
-    (cond (not (digit d)) (Read (value a b c) (at + 3))
-    Nothing))))
+-- "numbers are decimal, 1 to 3 digits, no leading zero but `0` itself": the number with which a line begins, and the line after it
+abbrev pub number : List ℕ → Option (ℕ × List ℕ)
+number [] = None
+number (x ∷ l) = cond (eqb x 48) (Some (0, l)) (cond (digit x) (let two = longer (x - 48) l in Some (longer two.0 two.1)) None)
 
--- the number that stands at a place of a line
-unfoldable pub number_at : List ℕ → ℕ → Number
-number_at l at = number_from (byte l at) (byte l (at + 1)) (byte l (at + 2)) (byte l (at + 3)) at
+-- the number with which a line ends
+abbrev pub last : List ℕ → Option ℕ
+last l = option_and_then (λ p. cond (eqb (length p.1) 0) (Some p.0) None) (number l)
 
--- that number, if the line ends with it
-unfoldable pub last : List ℕ → Number → Number
-last l (Read p next) = cond (eqb next (length l)) (Read p next) Nothing
-last l Nothing = Nothing
+-- after the first number, p, stand a space, which is 32, and the second, with which the line ends
+abbrev pub second : ℕ → List ℕ → Option Command
+second p [] = None
+second p (x ∷ l) = cond (eqb x 32) (option_map (BeginAcquisition p) (last l)) None
 
--- a command of one number, by its letter: n, s or r
-unfoldable pub of_one : ℕ → Number → Command
-of_one letter (Read p next) =
-    cond (eqb letter 110) (SetUp p)
-    (cond (eqb letter 115) (Step p)
-    (cond (eqb letter 114) (BeginRelease p)
-    Malformed))
-of_one letter Nothing = Malformed
+-- by the letter, with the line after it and a space: n, a, s and r are 110, 97, 115 and 114, and a has two numbers
+abbrev pub by_letter : ℕ → List ℕ → Option Command
+by_letter letter l =
+    cond (eqb letter 110) (option_map SetUp (last l))
+    (cond (eqb letter 97) (option_and_then (λ p. second p.0 p.1) (number l))
+    (cond (eqb letter 115) (option_map Step (last l))
+    (cond (eqb letter 114) (option_map BeginRelease (last l))
+    None)))
 
--- a command of two numbers, the first of which is p
-unfoldable pub of_two : ℕ → Number → Command
-of_two p (Read r next) = BeginAcquisition p r
-of_two p Nothing = Malformed
-
--- after the first number stands a space, and after it the second, with which the line ends
-unfoldable pub parted : List ℕ → Number → Command
-parted l (Read p next) = cond (eqb (byte l next) 32) (of_two p (last l (number_at l (next + 1)))) Malformed
-parted l Nothing = Malformed
-
--- by the letter, with the byte after it: a has two numbers
-unfoldable pub by_letter : ℕ → ℕ → List ℕ → Command
-by_letter letter space l = cond (eqb space 32) (cond (eqb letter 97) (parted l (number_at l 2)) (of_one letter (last l (number_at l 2)))) Malformed
+-- after the letter stands a space
+abbrev pub spaced : List ℕ → Option Command
+spaced [] = None
+spaced (letter ∷ []) = None
+spaced (letter ∷ x ∷ l) = cond (eqb x 32) (by_letter letter l) None
 
 -- what a line asks for
-unfoldable pub command_of : List ℕ → Command
-command_of l = cond (ltb 16 (length l)) Malformed (by_letter (byte l 0) (byte l 1) l)
+unfoldable pub command_of : List ℕ → Option Command
+command_of l = cond (ltb 16 (length l)) None (spaced l)

@@ -1,5 +1,7 @@
--- What private functions, of this crate and of `turning`, say of what they write. No public contract cites this file.
+-- What private functions, of this crate and of `turning`, say of what they write, and those of this crate of what they read. No public contract cites this
+-- file.
 use Rattle.std.specs.Prelude.{ℕ, ◌+◌, ◌≤◌, ◌≡◌, List, ◌++◌, length, take, drop}
+use Rattle.std.specs.Borrow.{Bor}
 
 -- the text had room from the place `at` on and was put there; r is the place after it
 pub record Put (text out : List ℕ) (at r : ℕ) (out' : List ℕ) : Type 0 where
@@ -7,3 +9,7 @@ pub record Put (text out : List ℕ) (at r : ℕ) (out' : List ℕ) : Type 0 whe
   pub room : r ≤ length out
   pub same : length out' ≡ length out
   pub leaves : out' ≡ take at out ++ text ++ drop r out
+
+-- what was read, with the line behind the reference
+abbrev pub read : ℕ × Bor (List ℕ) → ℕ × List ℕ
+read p = (p.0, p.1.now)

@@ -1,6 +1,7 @@
 -- What is written. Document 01, "The program `turns`": "Each command prints its answer number, or `x` and a space and the refusal. At the end of input come
 -- `lock` with the lock word and `log` with the held entries, blank-parted; an empty log prints `log` alone".
-use Rattle.std.specs.Prelude.{ℕ, ◌+◌, ◌/◌, ◌%◌, ◌≡◌, Bool, cond, List, [], ◌∷◌, ◌++◌, leb, ltb, length, take, drop, Ok, Err}
+use Rattle.std.specs.Prelude.{ℕ, ◌+◌, ◌/◌, ◌%◌, ◌≡◌, Bool, cond, List, [], ◌∷◌, ◌++◌, leb, ltb, length, take, drop, codes, Ok, Err}
+use Rattle.std.specs.List.{flat_map}
 use Rattle.stage.specs.Answers.{refusal_number, Reply}
 
 -- a number below 1000 in decimal
@@ -14,9 +15,9 @@ decimal x =
 unfoldable pub line_text : List ℕ → List ℕ → List ℕ
 line_text word rest = word ++ rest ++ 10 ∷ []
 
--- 120 and 32 are `x` and a space
+-- `x`, a space and the refusal's number
 unfoldable pub refusal_text : ℕ → List ℕ
-refusal_text k = line_text (120 ∷ 32 ∷ []) (decimal k)
+refusal_text k = line_text (codes "x ") (decimal k)
 
 unfoldable pub reply_text : Reply → List ℕ
 reply_text (Err k) = refusal_text (refusal_number k)
@@ -24,16 +25,15 @@ reply_text (Ok a) = line_text [] (decimal a.number)
 
 -- "lock", a space and the lock word
 unfoldable pub lock_text : ℕ → List ℕ
-lock_text k = line_text (108 ∷ 111 ∷ 99 ∷ 107 ∷ 32 ∷ []) (decimal k)
+lock_text k = line_text (codes "lock ") (decimal k)
 
 -- each entry with a space in front
-unfoldable pub entries_text : List ℕ → List ℕ
-entries_text [] = []
-entries_text (x ∷ others) = (32 ∷ decimal x) ++ entries_text others
+abbrev pub entries_text : List ℕ → List ℕ
+entries_text l = flat_map (λ x. 32 ∷ decimal x) l
 
 -- "log" and the entries
 unfoldable pub log_text : List ℕ → List ℕ
-log_text l = line_text (108 ∷ 111 ∷ 103 ∷ []) (entries_text l)
+log_text l = line_text (codes "log") (entries_text l)
 
 -- Where a text has room in a buffer from the place `at` on, it is put there and the place after it is answered. Where it has none, nothing is written and `at`
 -- is answered back.
