@@ -7,8 +7,10 @@ use Prim.Native.Nat.{ℕ, suc, ◌+◌, ◌-◌, ◌*◌, ◌/◌, ◌%◌, ◌�
 use native.Mathlib.Numerals.{add-one}
 use native.Mathlib.Omega.{arith}
 use borrow.Author.Tests.{le-leb, lt-leb}
-use lib.ListN.{length, take, length-append, drop_of_length-le}
+use borrow.Rule.Slice.PartMut.{put_mid}
+use lib.ListN.{length, take, replicate, length-append, drop_of_length-le}
 use lib.Seq.{paste, take_all}
+use Rattle.std.specs.Int.{w16, w32, to_be_bytes}
 use Rattle.stage.specs.Answers.{answer_of}
 use Rattle.stage.specs.Calls.{set_up, within, capacity, refusing, refusals, answered, after}
 use Rattle.stage.specs.Table.{Table, idle, untouched, fresh_table}
@@ -33,13 +35,18 @@ record_more d first n k {b} {fresh} fits fresh_is so_far same =
     then_behind d (records_of k (fresh_table n)) (record_of idle untouched) first (16 * k) 16 (first + 16 * k) (length_records k (fresh_table n)) (length_record idle untouched) (omega arith) so_far fresh_is refl same
     ∙ next
 
--- the distance is a number of two bytes
-pub trailer_is : (n : ℕ) → n ≤ 64 → 0 ∷ 1 ∷ n / 256 ∷ n % 256 ∷ 0 ∷ 0 ∷ 0 ∷ 0 ∷ 0 ∷ 0 ∷ (16 * n + 256) / 256 ∷ (16 * n + 256) % 256 ∷ [] ≡ trailer_of (fresh_table n)
+-- n is a number of two bytes, and the distance one of four
+pub trailer_is : (n m : ℕ) {two four : List ℕ} → n ≤ 64 → two ≡ to_be_bytes w16 n → m ≡ distance_for n → four ≡ to_be_bytes w32 m →
+    put_mid 8 4 (put_mid 2 2 (0 ∷ 1 ∷ replicate 10 0) two) four ≡ trailer_of (fresh_table n)
 unfolding trailer_of fresh_table
-trailer_is n h =
-    let high : distance_for n / 65536 ≡ 0 = omega arith in
-    let low : distance_for n % 65536 ≡ distance_for n = omega arith in
-    simp (high, low)
+trailer_is n m h two_is m_is four_is =
+    let k : ℕ = distance_for n in
+    let high : n / 256 % 256 ≡ n / 256 = omega arith in
+    let first : m / 16777216 % 256 ≡ k / 65536 / 256 = omega arith in
+    let second : m / 65536 % 256 ≡ k / 65536 % 256 = omega arith in
+    let third : m / 256 % 256 ≡ k % 65536 / 256 = omega arith in
+    let fourth : m % 256 ≡ k % 65536 % 256 = omega arith in
+    (λ i. put_mid 8 4 (put_mid 2 2 (0 ∷ 1 ∷ replicate 10 0) (two_is i)) (four_is i)) ∙ simp (high, first, second, third, fourth)
 
 -- the three parts one behind the other
 pub fresh_put : (b : List ℕ) (n : ℕ) {b₁ b₂ b₃ log trailer : List ℕ} → length_for n ≤ length b → b₁ ≡ paste b (length b - length_for n) (records_of n (fresh_table n)) (16 * n) →

@@ -3,12 +3,12 @@
 use mathlib.Core.Path.{◌≡◌, refl, sym, ◌∙◌, ap, ap₂}
 use mathlib.Core.Bool.{Bool, true, false, not}
 use mathlib.Core.List.{List, [], ◌∷◌, ◌++◌}
-use Prim.Native.Nat.{ℕ, ◌+◌, ◌≤◌, ◌<◌}
+use Prim.Native.Nat.{ℕ, ◌≤◌, ◌<◌}
 use native.Mathlib.Omega.{arith}
 use borrow.Author.Tests.{lt-ltb, le-ltb}
 use lib.Dec.{ltb}
 use lib.ListN.{length, take, drop}
-use lib.Seq.{paste, take-take}
+use lib.Seq.{take-take}
 use Rattle.stage.specs.Answers.{answer_of}
 use Rattle.stage.specs.Calls.{take_log, capacity, refusing, refusals, answered, after}
 use Rattle.stage.specs.Table.{log_taken}
@@ -37,13 +37,12 @@ module _ (b : List ℕ) (is : sound b ≡ true) (k : ℕ) (k_is : k ≡ held b) 
   pub few : k ≤ capacity
   few = omega (arith, k_is, (written b is).held_fits)
 
-  -- they go first into the buffer
-  pub handed : (lent : List ℕ) {all lent' : List ℕ} → all ≡ take capacity (drop (log_at b) b) → lent' ≡ paste lent 0 all k → lent' ≡ (read b).log ++ drop (length (read b).log) lent
+  -- they are the first of the log bytes, and go first into the buffer
+  pub handed : (lent : List ℕ) {all first : List ℕ} → all ≡ take capacity (drop (log_at b) b) → first ≡ take k all → first ++ drop k lent ≡ (read b).log ++ drop (length (read b).log) lent
   unfolding read
-  handed lent {all} all_is same =
-      let count : 0 + k ≡ length (read b).log = omega (arith, entries) in
+  handed lent {all} all_is first_is =
       let log : take k all ≡ (read b).log = ap₂ take k_is all_is ∙ take-take (held b) capacity (drop (log_at b) b) (written b is).held_fits in
-      same ∙ ap₂ (λ (x : List ℕ) (j : ℕ). x ++ drop j lent) log count
+      ap₂ (λ (x : List ℕ) (j : ℕ). x ++ drop j lent) (first_is ∙ log) (sym entries)
 
 module _ (b lent : List ℕ) where
   asks : refused (take_log (length lent)) b ≡ (not (sound b), Unsound) ∷ (ltb (length lent) (length (read b).log), LogBufferTooShort) ∷ []

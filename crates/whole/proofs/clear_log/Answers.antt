@@ -1,28 +1,23 @@
 -- What `clear_log` leaves is the image of the table with its log taken.
 -- Assumes nothing.
-use mathlib.Core.Path.{refl}
-use native.Mathlib.Omega.{arith}
-use lib.ListN.{length-set}
+use Rattle.std.proofs.Common.{◌≡◌, ◌<◌, ℕ, [], ◌∷◌, refl, ◌∙◌, ap, replicate, length, rules, arith}
+use Rattle.std.proofs.Math.ListN.{length-take, length-drop, length-append}
+use Rattle.std.proofs.lemmas.Slice.{put_mid-paste}
+use Rattle.layout.specs.Layout.{log_of, byte}
 use Rattle.image.proofs.Stored.{log_cleared}
+use Rattle.whole.proofs.Copies.{stored_two}
 use Rattle.whole.proofs.Taken.{long}
 use Rattle.whole.proofs.clear_log.Goals as goal
 
-pub overflow_sub-log : goal.overflow_sub-log
-overflow_sub-log c = omega (arith, long _ c.requires)
-
-pub overflow_sub-trailer : goal.overflow_sub-trailer
-overflow_sub-trailer c = omega (arith, long _ c.requires)
-
-pub copy-requires : goal.copy-requires
-copy-requires c = (omega (arith, long _ c.requires), omega arith)
-
-pub bounds-image-trailer : goal.bounds-image-trailer
-bounds-image-trailer c = omega (arith, c.copy.auto.dst, long _ c.requires)
-
-pub bounds-image-trailer-2 : goal.bounds-image-trailer-2
-bounds-image-trailer-2 c = simp length-set (omega (arith, c.copy.auto.dst, long _ c.requires))
-
 pub returns : goal.returns
+unfolding log_of
 returns c =
-    let known = c.slice_known-1 in
-    log_cleared _ c.requires (λ i. (known.given i).fits) c.empty_log-empty.ensures c.copy.ensures refl
+    let fits = long _ c.requires in
+    let bytes : (i : ℕ) → byte c.args.image.now i < 256 = search rules in
+    let log : c.fill.new.self ≡ replicate 256 0 =
+    c.fill.ensures.after (λ y h. h) ∙ ap (λ (n : ℕ). replicate n 0) {y = 256} (omega (arith, length-take {A = ℕ}, length-drop {A = ℕ})) in
+    let log_long = ap length log in
+    let held : c.fill-2.new.self ≡ 0 ∷ 0 ∷ [] =
+    c.fill-2.ensures.after (λ y h. h) ∙ ap (λ (n : ℕ). replicate n 0) {y = 2} (omega (arith, length-take {A = ℕ}, length-drop {A = ℕ}, length-append {A = ℕ})) in
+    log_cleared _ c.requires bytes refl (put_mid-paste _ _ _ _ _ 256 log (omega arith) refl)
+    (put_mid-paste _ _ _ _ _ 2 held (omega arith) refl ∙ stored_two _ _ _ 0 0 (omega arith) (omega (arith, length-take {A = ℕ}, length-drop {A = ℕ}, length-append {A = ℕ})))

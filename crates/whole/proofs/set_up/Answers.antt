@@ -1,19 +1,23 @@
 -- `set_up` refuses a number, then a short buffer; past both it writes a fresh image.
 -- Assumes nothing.
-use native.Mathlib.Omega.{arith}
+use Rattle.std.proofs.Common.{◌≤◌, ◌<◌, ◌⊎◌, inl, inr, rules, arith}
 use Rattle.whole.proofs.Fresh.{no_number, no_room, sets_up}
 use Rattle.image.proofs.Refusals.{too_low, too_high}
 use Rattle.whole.proofs.set_up.Goals as goal
 
-pub returns-then-n-lt1 : goal.returns-then-n-lt1
-returns-then-n-lt1 c = no_number _ _ (too_low _ _ _ c.if-n-lt1.true)
-
-pub returns-then-n-gt64 : goal.returns-then-n-gt64
-returns-then-n-gt64 c = no_number _ _ (too_high _ _ _ c.if-n-gt64.true)
+pub returns-then-not-contains : goal.returns-then-not-contains
+returns-then-not-contains c =
+    let outside : (c.args.n < 1) ⊎ (64 < c.args.n) = search rules in
+    no_number _ _ (elim outside [ inl low ↦ too_low _ _ _ low | inr high ↦ too_high _ _ _ high ])
 
 pub returns-then-image-n : goal.returns-then-image-n
-returns-then-image-n c = no_room _ _ c.if-n-lt1.false c.if-n-gt64.false (omega arith)
+returns-then-image-n c =
+    let least : 1 ≤ c.args.n = search rules in
+    let most : c.args.n ≤ 64 = search rules in
+    no_room _ _ least most (omega arith)
 
 pub returns : goal.returns
 returns c =
-    sets_up _ _ c.if-n-lt1.false c.if-n-gt64.false c.if-image-n.false c.put_fresh.ensures
+    let least : 1 ≤ c.args.n = search rules in
+    let most : c.args.n ≤ 64 = search rules in
+    sets_up _ _ least most c.if-image-n.false c.put_fresh.ensures
