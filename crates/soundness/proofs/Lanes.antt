@@ -31,8 +31,8 @@ leb_max a b k = go (leb a k) (leb b k) refl refl
     go false u e f = lt-leb (max a b) k (let h : k < a = leb-false a k e in omega arith)
 
 -- a lane is at 0 if it was, and the byte lies between the two
-lane : (a low x high : ℕ) → within 0 0 (max a (max (low - x) (x - high))) ≡ (within 0 0 a && within low high x)
-lane a low x high = simp (leb-zero, leb_max, leb_sub)
+lane : (a low x high : ℕ) → within 0 0 (max (max a (low - x)) (x - high)) ≡ (within 0 0 a && within low high x)
+lane a low x high = simp (leb-zero, leb_max, leb_sub, and_assoc)
 
 -- one element is set to a value that passes the test if the old one did and g holds
 set_and : (f : ℕ → Bool) (l : List ℕ) (k v : ℕ) (g : Bool) → k < length l → f v ≡ (f (get_or l k 0) && g) → each f (set l k v) ≡ (each f l && g)
@@ -43,7 +43,7 @@ set_and f (x ∷ l) (suc k) v g h e = rw (set_and f l k v g (le_of_suc-le-suc h)
 
 -- all lanes so far, and one more
 pub lanes_more : (f : ℕ → Bool) (l l₀ : List ℕ) (k x low high v : ℕ) → each (within 0 0) l ≡ (each (within 0 0) l₀ && below k f) → k < length l
-    → f k ≡ within low high x → v ≡ max (get_or l k 0) (max (low - x) (x - high)) → each (within 0 0) (set l k v) ≡ (each (within 0 0) l₀ && below (k + 1) f)
+    → f k ≡ within low high x → v ≡ max (max (get_or l k 0) (low - x)) (x - high) → each (within 0 0) (set l k v) ≡ (each (within 0 0) l₀ && below (k + 1) f)
 unfolding below
 lanes_more f l l₀ k x low high v e h ef ev =
     set_and (within 0 0) l k v (f k) h (rw (ev, ef) (lane (get_or l k 0) low x high))

@@ -12,16 +12,17 @@ use Rattle.soundness.proofs.farther.Goals as goal
 
 pub loop-k-init : goal.loop-k-init
 unfolding below
-loop-k-init c = (search rules, search rules, sym (and-true _))
+loop-k-init c = (search rules, sym (and-true _))
 
 pub loop-k-preserved : goal.loop-k-preserved
-loop-k-preserved c =
-    let inner = c.greater.ensures ∙ ap₂ max c.above.ensures c.above-in-loop-k.ensures in (
-      omega arith,
-      simp length-set (omega arith),
-      lanes_more _ _ _ _ _ _ _ _ c.loop-k.invariant.2 (omega arith) refl (c.greater-in-loop-k.ensures ∙ ap (max _) inner),
-    )
+loop-k-preserved c = (
+  simp length-set (omega arith),
+  lanes_more _ _ _ _ _ _ _ _ c.loop-k.invariant.1 (omega arith) refl
+      (c.max-in-loop-k.ensures ∙ ap₂ max (c.max.ensures ∙ ap (max _) c.saturating_sub.ensures) c.saturating_sub-in-loop-k.ensures),
+)
 
 pub returns : goal.returns
 unfolding lanes_right
-returns c = let e : c.loop-k.k ≡ 16 = omega arith in rw e at c.loop-k.invariant.2
+returns c =
+    let e : c.loop-k.k ≡ 16 = omega arith in
+    record { lanes = rw e at c.loop-k.invariant.1; fit = c.fits-bytes }
