@@ -36,13 +36,6 @@ module _ (f : ℕ → Bool) where
   pub each_more : (l : List ℕ) (i : ℕ) (ok : Bool) → ok ≡ each f (take i l) → i < length l → (ok && f (get_or l i 0)) ≡ each f (take (i + 1) l)
   each_more l i ok e h = rw (e, add-one) (more l i h)
 
-  pub each_all : (l : List ℕ) (i : ℕ) (ok : Bool) → ok ≡ each f (take i l) → length l ≤ i → ok ≡ each f l
-  each_all l i ok e h = rw take_all at e
-
-  pub every_more : (i : ℕ) (ok r : Bool) → ok ≡ every i f → r ≡ f (suc i) → (ok && r) ≡ every (i + 1) f
-  unfolding every
-  every_more i ok r e s = rw (e, s, add-one)
-
 module _ (f g : ℕ → Bool) where
   pub each_same : ((x : ℕ) → f x ≡ g x) → (l : List ℕ) → each f l ≡ each g l
   unfolding each

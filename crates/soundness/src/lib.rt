@@ -29,7 +29,7 @@ fn all_within(low: u8, high: u8, part: &[u8]) -> bool
 {
     let mut ok = true;
     for &x in part {
-        ok &= (low <= x) & (x <= high);
+        ok &= (low..=high).contains(&x);
     }
     ok
 }
@@ -150,7 +150,7 @@ fn sound_own(stage: u8, own: u8) -> bool
 {
     match stage {
         0 => own == 0,
-        _ => 1 <= own && own <= 254,
+        _ => (1..=254).contains(&own),
     }
 }
 
@@ -158,7 +158,7 @@ fn sound_own(stage: u8, own: u8) -> bool
 fn set_at(low: u8, high: u8, stage: u8, x: u8) -> bool
     ensures { result ≡ at (within low high stage) (leb 1 x) }
 {
-    stage < low || high < stage || 1 <= x
+    !(low..=high).contains(&stage) || 1 <= x
 }
 
 // Whether a module's stage allows its own priority, prev, w's pointer and s.
