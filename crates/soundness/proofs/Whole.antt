@@ -19,7 +19,7 @@ use Rattle.stage.specs.declared.Shared.{Shared}
 use Rattle.layout.specs.Layout.{byte, two, four, distance_for, length_for, trailer_at, log_at, record_at, modules, held, read, private_at, shared_at}
 use Rattle.soundness.specs.SoundImage.{sound_trailer, sound_zeros, sound_log, sound}
 use Rattle.soundness.specs.Parts.{trailer_right, log_right, record_right, content_right}
-use Rattle.soundness.proofs.Lists.{sorted, only_zero, each_same, every_same, every_and}
+use Rattle.soundness.proofs.Lists.{sorted, only_zero, all_are, every_same, every_and}
 use Rattle.soundness.proofs.Records.{chunks_every, record_is}
 
 -- the trailer's tests by where its bytes lie in the image
@@ -112,7 +112,7 @@ checks_are b long = go (leb (16 * modules b) (length (take (length b - 268) b)))
           held_long,
           le-leb (length_for n) (length b) fits,
           take-take (held b) 256 log h,
-          each_same (within 0 0) (eqb 0) (λ x. (only_zero x).0),
+          all_are (within 1 n) (within 1 n) (λ x. refl), all_are (within 0 0) (eqb 0) (λ x. (only_zero x).0),
           trailer_there b at n,
           cut_out b n fits,
           records_are n (λ p. sound_zeros b (record_at b p)) (λ p. private_at b (record_at b p)) (λ p. shared_at b (record_at b p)) idle untouched,

@@ -5,7 +5,7 @@ use Rattle.std.specs.List.{list_all}
 use Rattle.std.specs.Simd.{first_chunks}
 use Rattle.stage.specs.Calls.{within}
 use Rattle.stage.specs.Rows.{last}
-use Rattle.stage.specs.Sound.{each, sound_private, sound_shared}
+use Rattle.stage.specs.Sound.{sound_private, sound_shared}
 use Rattle.layout.specs.Layout.{byte, two, four, distance_for, private_at, shared_at}
 use Rattle.soundness.specs.SoundImage.{sound_zeros}
 
@@ -16,7 +16,7 @@ trailer_right t n =
 
 -- the log's entries and the rest
 unfoldable pub log_right : List ℕ → ℕ → ℕ → Bool
-log_right log n held = each (within 1 n) (take held log) && each (within 0 0) (drop held log)
+log_right log n held = list_all (within 1 n) (take held log) && list_all (within 0 0) (drop held log)
 
 -- a record
 unfoldable pub record_right : ℕ → List ℕ → Bool

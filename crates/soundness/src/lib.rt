@@ -15,7 +15,7 @@
 ghost use Rattle.std.specs.Prelude.{ℕ, ◌≡◌, ◌&&◌, ◌*◌, ◌<◌, ◌≤◌, leb, length, get_or};
 ghost use Rattle.std.specs.List.{list_all};
 ghost use Rattle.stage.specs.Calls.{within};
-ghost use Rattle.stage.specs.Sound.{at, each, sound_link, sound_own, sound_stage, sound_private, sound_shared};
+ghost use Rattle.stage.specs.Sound.{at, sound_link, sound_own, sound_stage, sound_private, sound_shared};
 ghost use Rattle.soundness.specs.SoundImage as SoundImage;
 ghost use Rattle.soundness.specs.Parts.{trailer_right, log_right, record_right, content_right, greatest_row, greatest_rows, lanes_right};
 
@@ -23,9 +23,8 @@ use link::Link;
 use stage::{Private, Shared};
 
 // Whether every byte lies between the two.
-#[tactic(auto, using(crate::proofs::Lists::each_more), unfolding(stage::specs::Sound::each))]
 fn all_within(low: u8, high: u8, part: &[u8]) -> bool
-    ensures { result ≡ each (within low high) part.now }
+    ensures { result ≡ list_all (within low high) part.now }
 {
     let mut ok = true;
     for &x in part {
@@ -110,7 +109,7 @@ fn greatest(n: u8) -> [[u8; 16]; 5]
 
 // How far off the bytes of all records are, with one more record. Nowhere, if so before and each of its bytes lies between its two.
 fn farther(mut off: [u8; 16], bytes: &[u8; 16], least: &[u8; 16], greatest: &[u8; 16]) -> [u8; 16]
-    ensures lanes { each (within 0 0) result ≡ (each (within 0 0) off && lanes_right bytes.now least.now greatest.now) }
+    ensures lanes { list_all (within 0 0) result ≡ (list_all (within 0 0) off && lanes_right bytes.now least.now greatest.now) }
     ensures fit { (k : ℕ) → get_or bytes.now k 0 < 256 }
 {
     for (k, &x) in bytes.iter().enumerate() {

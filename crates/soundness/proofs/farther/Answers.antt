@@ -17,7 +17,7 @@ loop-k-init c = (search rules, sym (and-true _))
 pub loop-k-preserved : goal.loop-k-preserved
 loop-k-preserved c = (
   simp length-set (omega arith),
-  lanes_more _ _ _ _ _ _ _ _ c.loop-k.invariant.1 (omega arith) refl
+  lanes_more _ c.loop-k.off c.args.off _ _ _ _ _ c.loop-k.invariant.1 (omega arith) refl
       (c.max-in-loop-k.ensures ∙ ap₂ max (c.max.ensures ∙ ap (max _) c.saturating_sub.ensures) c.saturating_sub-in-loop-k.ensures),
 )
 

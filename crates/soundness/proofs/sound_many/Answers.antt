@@ -3,12 +3,10 @@
 use mathlib.Core.Path.{refl}
 use native.Mathlib.Omega.{arith}
 use borrow.Author.Rules.{rules}
-use Rattle.stage.specs.Sound.{each}
 use Rattle.soundness.proofs.Tables.{row_below, records_more}
 use Rattle.soundness.proofs.sound_many.Goals as goal
 
 pub loop-record-init : goal.loop-record-init
-unfolding each
 loop-record-init c = (refl, refl)
 
 pub bounds-row : goal.bounds-row

@@ -2,10 +2,9 @@
 use Rattle.std.proofs.Common.{◌≡◌, length, take}
 use Rattle.std.specs.List.{list_all}
 use Rattle.stage.specs.Calls.{within}
-use Rattle.stage.specs.Sound.{each}
 use Rattle.soundness.specs.Parts.{record_right}
 use Rattle.soundness.proofs.sound_many.Given as goal
 
 abbrev pub invariant-loop-record : goal.invariant-loop-record
 invariant-loop-record l =
-    (length l.off ≡ 16) × (each (within 0 0) l.off ≡ list_all (record_right l.n) (take l.record-index l.records))
+    (length l.off ≡ 16) × (list_all (within 0 0) l.off ≡ list_all (record_right l.n) (take l.record-index l.records))
