@@ -108,6 +108,7 @@ fn greatest(n: u8) -> [[u8; 16]; 5]
 }
 
 // How far off the bytes of all records are, with one more record. Nowhere, if so before and each of its bytes lies between its two.
+#[tactic(auto, unfolding(crate::specs::Parts::below))]
 fn farther(mut off: [u8; 16], bytes: &[u8; 16], least: &[u8; 16], greatest: &[u8; 16]) -> [u8; 16]
     ensures lanes { list_all (within 0 0) result ≡ (list_all (within 0 0) off && lanes_right bytes.now least.now greatest.now) }
     ensures fit { (k : ℕ) → get_or bytes.now k 0 < 256 }
@@ -121,6 +122,7 @@ fn farther(mut off: [u8; 16], bytes: &[u8; 16], least: &[u8; 16], greatest: &[u8
 }
 
 // Whether all records are sound, in 16 lanes.
+#[tactic(auto, using(crate::proofs::Tables::records_more))]
 fn sound_many(records: &[[u8; 16]], n: u8) -> bool
     ensures { result ≡ list_all (record_right n) records.now }
 {

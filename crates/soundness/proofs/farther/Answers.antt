@@ -1,18 +1,12 @@
 -- `farther` makes one record's 16 lanes: all so far, and one more.
 -- Assumes nothing.
 use Prim.Native.Nat.{max}
-use mathlib.Core.Path.{◌≡◌, refl, sym, ◌∙◌, ap, ap₂}
-use mathlib.Core.Bool.{and-true}
+use mathlib.Core.Path.{◌≡◌, refl, ◌∙◌, ap, ap₂}
 use native.Mathlib.Omega.{arith}
-use borrow.Author.Rules.{rules}
 use lib.ListN.{length-set}
-use Rattle.soundness.specs.Parts.{below, lanes_right}
+use Rattle.soundness.specs.Parts.{lanes_right}
 use Rattle.soundness.proofs.Lanes.{lanes_more}
 use Rattle.soundness.proofs.farther.Goals as goal
-
-pub loop-k-init : goal.loop-k-init
-unfolding below
-loop-k-init c = (search rules, sym (and-true _))
 
 pub loop-k-preserved : goal.loop-k-preserved
 loop-k-preserved c = (
@@ -21,8 +15,6 @@ loop-k-preserved c = (
       (c.max-in-loop-k.ensures ∙ ap₂ max (c.max.ensures ∙ ap (max _) c.saturating_sub.ensures) c.saturating_sub-in-loop-k.ensures),
 )
 
-pub returns : goal.returns
+pub returns-clause-lanes : goal.returns-clause-lanes
 unfolding lanes_right
-returns c =
-    let e : c.loop-k.k ≡ 16 = omega arith in
-    record { lanes = rw e at c.loop-k.invariant.1; fit = c.fits-bytes }
+returns-clause-lanes c = let e : c.loop-k.k ≡ 16 = omega arith in rw e at c.loop-k.invariant.1
