@@ -25,7 +25,7 @@ use Rattle.soundness.proofs.Records.{chunks_every, record_is}
 -- the trailer's tests by where its bytes lie in the image
 two_there : (b : List ℕ) (at k : ℕ) → two (drop at b) k ≡ two b (at + k)
 unfolding two
-two_there b at k = let e : at + (k + 1) ≡ at + k + 1 = omega arith in rw (get_or-drop, get_or-drop, e)
+two_there b at k = let e : at + (k + 1) ≡ at + k + 1 = omega arith in rw (get_or-drop at b k 0, get_or-drop at b (k + 1) 0, e)
 
 trailer_there : (b : List ℕ) (at n : ℕ)
     → trailer_right (drop at b) n
