@@ -1,15 +1,11 @@
 -- Tests of every element of a list, and of every number from 1 on, as loops make them: all so far, and one more.
 -- Assumes nothing.
-use Prim.Native.Nat.{ℕ, zero, suc, ◌+◌, ◌<◌, ◌≤◌}
-use mathlib.Core.Path.{◌≡◌, refl, sym, ◌∙◌, ap}
+use Prim.Native.Nat.{ℕ, zero, suc, ◌≤◌}
+use mathlib.Core.Path.{◌≡◌, refl}
 use mathlib.Core.Bool.{Bool, true, false, ◌&&◌, and_assoc, and_comm, and-true}
 use mathlib.Core.List.{List, [], ◌∷◌}
-use native.Mathlib.Nat.{le_of_suc-le-suc, not-suc-le-zero}
 use native.Mathlib.Omega.{arith}
-use native.Mathlib.Numerals.{add-one}
 use lib.Dec.{eqb, leb-zero, leb-suc-zero, eqb-zero-suc, eqb-suc-zero}
-use lib.ListN.{length, take, get_or}
-use lib.Seq.{take_all}
 use Rattle.std.specs.List.{list_all}
 use Rattle.stage.specs.Calls.{within}
 use Rattle.stage.specs.Sound.{every, each}

@@ -3,7 +3,7 @@
 use Rattle.std.specs.Prelude.{ℕ, zero, suc, ◌-◌, ◌*◌, Bool, true, ◌&&◌, List, [], ◌∷◌, eqb, leb, length, take, drop, get_or}
 use Rattle.std.specs.List.{list_all}
 use Rattle.std.specs.Simd.{first_chunks}
-use Rattle.stage.specs.Calls.{within, capacity}
+use Rattle.stage.specs.Calls.{within}
 use Rattle.stage.specs.Rows.{last}
 use Rattle.stage.specs.Sound.{sound_private, sound_shared}
 use Rattle.layout.specs.Layout.{byte, two, four, distance_for, private_at, shared_at}
@@ -16,16 +16,16 @@ trailer_right t n =
 
 -- the log's entries and the rest
 unfoldable pub log_right : List ℕ → ℕ → ℕ → Bool
-log_right log n held = leb held capacity && (list_all (within 1 n) (take held log) && list_all (within 0 0) (drop held log))
+log_right log n held = list_all (within 1 n) (take held log) && list_all (within 0 0) (drop held log)
 
 -- a record
 unfoldable pub record_right : ℕ → List ℕ → Bool
 record_right n r = sound_zeros r 0 && sound_private n (private_at r 0) && sound_shared n (shared_at r 0)
 
--- how many records there are, and that they have room; the log; and the records, which end where what is above the log does
+-- how many records and log entries there are, the log and the records, which end where what is above the log does
 unfoldable pub content_right : List ℕ → List ℕ → ℕ → ℕ → Bool
 content_right above log n held =
-    leb n 64 && leb (16 * n) (length above) && (log_right log n held && list_all (record_right n) (first_chunks 16 n (drop (length above - 16 * n) above)))
+    leb n 64 && leb held 256 && leb (16 * n) (length above) && (log_right log n held && list_all (record_right n) (first_chunks 16 n (drop (length above - 16 * n) above)))
 
 -- f holds of 0 to k - 1
 unfoldable pub below : ℕ → (ℕ → Bool) → Bool

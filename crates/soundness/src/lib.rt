@@ -46,14 +46,13 @@ fn sound_trailer(trailer: &[u8; 12], n: u16) -> bool
         & (u16::from(lock) <= n)
 }
 
-// Whether a log holds so many entries, which are 1 to n, and the rest are 0.
-#[tactic(auto, using(laws::proofs::Said::said), unfolding(crate::specs::Parts::log_right))]
+// Whether the log's held entries are 1 to n and the rest are 0.
+#[tactic(auto, unfolding(crate::specs::Parts::log_right))]
 fn sound_log(log: &[u8; 256], n: u8, held: usize) -> bool
+    requires { held ≤ 256 }
     ensures { result ≡ log_right log.now n held }
 {
-    let Some((entries, rest)) = log.split_at_checked(held) else {
-        return false;
-    };
+    let (entries, rest) = log.split_at(held);
     all_within(1, n, entries) & all_within(0, 0, rest)
 }
 
@@ -247,17 +246,19 @@ fn sound_few(records: &[[u8; 16]], n: u8) -> bool
     records.iter().all(|record| sound_record(record, n))
 }
 
-// Whether log and records are sound, in an image of n modules that holds so many log entries: n is at most 64, and the records have room above
-// the log, where they end.
+// Whether log and records are sound, in an image of n modules that holds so many log entries: n is at most 64, they are at most 256, the records
+// have room above the log, where they end, and each of them and the log are right.
 #[tactic(auto, using(laws::proofs::Said::said), unfolding(crate::specs::Parts::content_right))]
 fn sound_content(above: &[u8], log: &[u8; 256], n: u16, held: usize) -> bool
     ensures { result ≡ content_right above.now log.now n held }
 {
-    let length = 16 * usize::from(n);
-    if 64 < n || above.len() < length {
+    let Some(first) = above.len().checked_sub(16 * usize::from(n)) else {
+        return false;
+    };
+    if 64 < n || 256 < held {
         return false;
     }
-    let (records, _) = above[above.len() - length..].as_chunks::<16>();
+    let (records, _) = above[first..].as_chunks::<16>();
     let n = n as u8;
     let log = sound_log(log, n, held);
     if n < 4 {
