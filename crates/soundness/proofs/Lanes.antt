@@ -10,8 +10,8 @@ use native.Mathlib.Omega.{arith}
 use borrow.Author.Tests.{leb-true, leb-false, le-leb, lt-leb}
 use lib.Dec.{leb, leb-zero}
 use lib.ListN.{length, get_or, set}
+use Rattle.std.specs.List.{list_all}
 use Rattle.stage.specs.Calls.{within}
-use Rattle.stage.specs.Sound.{each}
 use Rattle.soundness.specs.Parts.{below}
 use Rattle.soundness.proofs.Lists.{sorted}
 
@@ -31,20 +31,19 @@ leb_max a b k = go (leb a k) (leb b k) refl refl
     go false u e f = lt-leb (max a b) k (let h : k < a = leb-false a k e in omega arith)
 
 -- a lane is at 0 if it was, and the byte lies between the two
-lane : (a low x high : ℕ) → within 0 0 (max a (max (low - x) (x - high))) ≡ (within 0 0 a && within low high x)
-lane a low x high = simp (leb-zero, leb_max, leb_sub)
+lane : (a low x high : ℕ) → within 0 0 (max (max a (low - x)) (x - high)) ≡ (within 0 0 a && within low high x)
+lane a low x high = simp (leb-zero, leb_max, leb_sub, and_assoc)
 
 -- one element is set to a value that passes the test if the old one did and g holds
-set_and : (f : ℕ → Bool) (l : List ℕ) (k v : ℕ) (g : Bool) → k < length l → f v ≡ (f (get_or l k 0) && g) → each f (set l k v) ≡ (each f l && g)
-unfolding each
+set_and : (f : ℕ → Bool) (l : List ℕ) (k v : ℕ) (g : Bool) → k < length l → f v ≡ (f (get_or l k 0) && g) → list_all f (set l k v) ≡ (list_all f l && g)
 set_and f [] k v g h e = absurd (not-suc-le-zero h)
 set_and f (x ∷ l) zero v g h e = rw e (simp sorted)
-set_and f (x ∷ l) (suc k) v g h e = rw (set_and f l k v g (le_of_suc-le-suc h) e) (sym (and_assoc (f x) (each f l) g))
+set_and f (x ∷ l) (suc k) v g h e = rw (set_and f l k v g (le_of_suc-le-suc h) e) (sym (and_assoc (f x) (list_all f l) g))
 
 -- all lanes so far, and one more
-pub lanes_more : (f : ℕ → Bool) (l l₀ : List ℕ) (k x low high v : ℕ) → each (within 0 0) l ≡ (each (within 0 0) l₀ && below k f) → k < length l
-    → f k ≡ within low high x → v ≡ max (get_or l k 0) (max (low - x) (x - high)) → each (within 0 0) (set l k v) ≡ (each (within 0 0) l₀ && below (k + 1) f)
+pub lanes_more : (f : ℕ → Bool) (l l₀ : List ℕ) (k x low high v : ℕ) → list_all (within 0 0) l ≡ (list_all (within 0 0) l₀ && below k f) → k < length l
+    → f k ≡ within low high x → v ≡ max (max (get_or l k 0) (low - x)) (x - high) → list_all (within 0 0) (set l k v) ≡ (list_all (within 0 0) l₀ && below (k + 1) f)
 unfolding below
 lanes_more f l l₀ k x low high v e h ef ev =
     set_and (within 0 0) l k v (f k) h (rw (ev, ef) (lane (get_or l k 0) low x high))
-    ∙ rw (e, add-one) (and_assoc (each (within 0 0) l₀) (below k f) (f k))
+    ∙ rw (e, add-one) (and_assoc (list_all (within 0 0) l₀) (below k f) (f k))

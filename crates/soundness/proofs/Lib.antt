@@ -1,5 +1,5 @@
 pub mod Lists
-pub mod Parts
 pub mod Lanes
 pub mod Tables
+pub mod Records
 pub mod Whole

@@ -1,15 +1,12 @@
 -- Tests of every element of a list, and of every number from 1 on, as loops make them: all so far, and one more.
 -- Assumes nothing.
-use Prim.Native.Nat.{ℕ, zero, suc, ◌+◌, ◌<◌, ◌≤◌}
-use mathlib.Core.Path.{◌≡◌, refl, sym, ◌∙◌, ap}
+use Prim.Native.Nat.{ℕ, zero, suc, ◌≤◌}
+use mathlib.Core.Path.{◌≡◌, refl}
 use mathlib.Core.Bool.{Bool, true, false, ◌&&◌, and_assoc, and_comm, and-true}
 use mathlib.Core.List.{List, [], ◌∷◌}
-use native.Mathlib.Nat.{le_of_suc-le-suc, not-suc-le-zero}
 use native.Mathlib.Omega.{arith}
-use native.Mathlib.Numerals.{add-one}
 use lib.Dec.{eqb, leb-zero, leb-suc-zero, eqb-zero-suc, eqb-suc-zero}
-use lib.ListN.{length, take, get_or}
-use lib.Seq.{take_all}
+use Rattle.std.specs.List.{list_all}
 use Rattle.stage.specs.Calls.{within}
 use Rattle.stage.specs.Sound.{every, each}
 
@@ -26,28 +23,11 @@ pub only_zero : (x : ℕ) → (within 0 0 x ≡ eqb 0 x) × (within 0 0 x ≡ eq
 only_zero zero = (refl, refl)
 only_zero (suc x) = (rw (leb-zero, leb-suc-zero, eqb-zero-suc), rw (leb-zero, leb-suc-zero, eqb-suc-zero))
 
-module _ (f : ℕ → Bool) where
-  more : (l : List ℕ) (i : ℕ) → i < length l → (each f (take i l) && f (get_or l i 0)) ≡ each f (take (suc i) l)
-  unfolding each
-  more [] i h = absurd (not-suc-le-zero h)
-  more (x ∷ l) zero h = sym (and-true (f x))
-  more (x ∷ l) (suc i) h = and_assoc (f x) (each f (take i l)) (f (get_or l i 0)) ∙ ap (λ (b : Bool). f x && b) (more l i (le_of_suc-le-suc h))
-
-  pub each_more : (l : List ℕ) (i : ℕ) (ok : Bool) → ok ≡ each f (take i l) → i < length l → (ok && f (get_or l i 0)) ≡ each f (take (i + 1) l)
-  each_more l i ok e h = rw (e, add-one) (more l i h)
-
-  pub each_all : (l : List ℕ) (i : ℕ) (ok : Bool) → ok ≡ each f (take i l) → length l ≤ i → ok ≡ each f l
-  each_all l i ok e h = rw take_all at e
-
-  pub every_more : (i : ℕ) (ok r : Bool) → ok ≡ every i f → r ≡ f (suc i) → (ok && r) ≡ every (i + 1) f
-  unfolding every
-  every_more i ok r e s = rw (e, s, add-one)
-
 module _ (f g : ℕ → Bool) where
-  pub each_same : ((x : ℕ) → f x ≡ g x) → (l : List ℕ) → each f l ≡ each g l
+  pub all_are : ((x : ℕ) → f x ≡ g x) → (l : List ℕ) → list_all f l ≡ each g l
   unfolding each
-  each_same e [] = refl
-  each_same e (x ∷ l) = rw (e x, each_same e l)
+  all_are e [] = refl
+  all_are e (x ∷ l) = rw (e x, all_are e l)
 
   pub every_same : (n : ℕ) → ((p : ℕ) → 1 ≤ p → p ≤ n → f p ≡ g p) → every n f ≡ every n g
   unfolding every

@@ -12,237 +12,146 @@
 // looked up by the stage, and are not written out byte by byte. That these rows are the rules is shown in proofs/Tables.antt.
 #![tactic(auto)]
 
-ghost use Rattle.std.specs.Prelude.{◌≡◌, ◌&&◌, ◌+◌, ◌-◌, ◌*◌, ◌<◌, ◌≤◌, min, max, leb, length};
+ghost use Rattle.std.specs.Prelude.{ℕ, ◌≡◌, ◌&&◌, ◌*◌, ◌<◌, ◌≤◌, leb, length, get_or};
+ghost use Rattle.std.specs.List.{list_all};
 ghost use Rattle.stage.specs.Calls.{within};
-ghost use Rattle.stage.specs.Sound.{at, each, sound_link, sound_own, sound_stage, sound_private, sound_shared};
-ghost use Rattle.layout.specs.Layout as Layout;
+ghost use Rattle.stage.specs.Sound.{at, sound_link, sound_own, sound_stage, sound_private, sound_shared};
 ghost use Rattle.soundness.specs.SoundImage as SoundImage;
-ghost use Rattle.soundness.specs.Parts.{trailer_right, log_right, record_right, records_right, least_table, greatest_table, least_rows, lanes_right, content_right};
+ghost use Rattle.soundness.specs.Parts.{trailer_right, log_right, record_right, content_right, greatest_row, greatest_rows, lanes_right};
 
 use link::Link;
 use stage::{Private, Shared};
 
-// A byte as a wider number.
-fn wide(x: u8) -> usize
-    ensures { (result ≡ x) × (result < 256) }
-{
-    x as usize
-}
-
-// The number of two bytes, the greatest first.
-fn two(image: &[u8], at: usize) -> usize
-    requires { at + 1 < length image.now }
-    ensures { (result ≡ Layout.two image.now at) × (result < 65536) }
-{
-    256 * wide(image[at]) + wide(image[at + 1])
-}
-
 // Whether every byte lies between the two.
 fn all_within(low: u8, high: u8, part: &[u8]) -> bool
-    ensures { result ≡ each (within low high) part.now }
+    ensures { result ≡ list_all (within low high) part.now }
 {
     let mut ok = true;
-    for i in 0..part.len() {
-        let x = part[i];
-        ok = ok & ((low <= x) & (x <= high));
+    for &x in part {
+        ok &= (low..=high).contains(&x);
     }
     ok
 }
 
-// Whether the trailer that starts at a place has the right edition, zeros and distance, at least one module, and a lock word from 0 to n.
-fn sound_trailer(image: &[u8], at: usize, n: usize) -> bool
-    requires { (at + 12 ≤ length image.now) × (n < 65536) }
-    ensures { result ≡ trailer_right image.now at n }
+// Whether a trailer has the right edition, zeros and distance, at least one module, and a lock word from 0 to n.
+#[tactic(auto, unfolding(crate::specs::Parts::trailer_right, layout::specs::Layout::two, layout::specs::Layout::four))]
+fn sound_trailer(trailer: &[u8; 12], n: u16) -> bool
+    ensures { result ≡ trailer_right trailer.now n }
 {
-    (image[at + 1] == 1)
-        & (two(image, at + 6) == 0)
-        & (65536 * two(image, at + 8) + two(image, at + 10) == 16 * n + 256)
+    let [lock, edition, _, _, _, _, zero1, zero0, d3, d2, d1, d0] = *trailer;
+    (edition == 1)
+        & (u16::from_be_bytes([zero1, zero0]) == 0)
+        & (u32::from_be_bytes([d3, d2, d1, d0]) == 16 * u32::from(n) + 256)
         & (1 <= n)
-        & (wide(image[at]) <= n)
+        & (u16::from(lock) <= n)
 }
 
 // Whether the log's held entries are 1 to n and the rest are 0.
-fn sound_log(image: &[u8], n: u8, held: usize) -> bool
-    requires { (268 ≤ length image.now) × (held ≤ 256) }
-    ensures { result ≡ log_right image.now n held }
+#[tactic(auto, unfolding(crate::specs::Parts::log_right))]
+fn sound_log(log: &[u8; 256], n: u8, held: usize) -> bool
+    requires { held ≤ 256 }
+    ensures { result ≡ log_right log.now n held }
 {
-    let at = image.len() - 268;
-    let log = &image[at..at + 256];
-    all_within(1, n, &log[0..held]) & all_within(0, 0, &log[held..256])
+    let (entries, rest) = log.split_at(held);
+    all_within(1, n, entries) & all_within(0, 0, rest)
 }
 
-// The least that each byte of a record may be, in five rows of 16: all may be 0; own priority isn't 0; nor is prev; nor w's pointer;
-// own priority and s aren't 0.
-fn least() -> [u8; 80]
-    ensures { result ≡ least_table }
+// The least that each byte of a record may be, in five rows.
+static LEAST: [[u8; 16]; 5] = [
+    // Each may be 0.
+    [0, 0, 0, 0, 0, 0, 0, 0, 0, 0, 0, 0, 0, 0, 0, 0],
+    // Own priority isn't 0.
+    [0, 1, 0, 0, 0, 0, 0, 0, 0, 0, 0, 0, 0, 0, 0, 0],
+    // Nor is prev.
+    [0, 1, 1, 0, 0, 0, 0, 0, 0, 0, 0, 0, 0, 0, 0, 0],
+    // Nor is w's pointer.
+    [0, 1, 1, 1, 0, 0, 0, 0, 0, 0, 0, 0, 0, 0, 0, 0],
+    // Own priority and s aren't 0.
+    [0, 1, 0, 0, 0, 0, 0, 0, 0, 0, 0, 0, 0, 0, 1, 0],
+];
+
+// The row of each stage. There are 32 places so that any number's remainder by 32 has one.
+static ROWS: [u8; 32] = [
+    0, 1, 1, 1, 2, 2, 2, 3, 2, 2, 2, 1, 1, 1, 1, 1, 1, 4, 4, 1, 1, 1, 1, 1, 1, 1, 1, 1, 1, 1, 1, 1,
+];
+
+// The greatest that each byte of a record may be, but for own priority, which is given.
+fn greatest_row(own: u8, n: u8) -> [u8; 16]
+    ensures { result ≡ greatest_row own n }
 {
-    let mut table = [0; 80];
-    // own priority
-    table[17] = 1;
-    table[33] = 1;
-    table[49] = 1;
-    table[65] = 1;
-    // prev
-    table[34] = 1;
-    table[50] = 1;
-    // w's pointer
-    table[51] = 1;
-    // s
-    table[78] = 1;
-    table
+    [
+        stage::LAST,
+        own,
+        n, // prev
+        n, // w's pointer
+        1, // w's mark
+        0,
+        255, // w's count
+        255,
+        n, // the link's pointer
+        1, // the link's mark
+        255, // the link's count
+        255,
+        255, // priority
+        1, // Locked
+        n, // s
+        0,
+    ]
 }
 
-// Where the row of each stage starts in `least`. There are 32 places so that any number's remainder by 32 has one.
-fn least_rows() -> [u8; 32]
-    ensures { result ≡ least_rows }
+// The same by the row of the stage. Own priority is 0 at stage 0, and 254 at most at the others.
+fn greatest(n: u8) -> [[u8; 16]; 5]
+    ensures { result ≡ greatest_rows n }
 {
-    let mut table = [16; 32];
-    table[0] = 0;
-    table[4] = 32;
-    table[5] = 32;
-    table[6] = 32;
-    table[7] = 48;
-    table[8] = 32;
-    table[9] = 32;
-    table[10] = 32;
-    table[17] = 64;
-    table[18] = 64;
-    table
-}
-
-// The greatest that each byte of a record may be, in two rows of 16: at stage 0, and at the others. A stage's row starts where it does in
-// `least`, but at 16 at most.
-fn greatest(n: u8) -> [u8; 32]
-    ensures { result ≡ greatest_table n }
-{
-    let mut table = [255; 32];
-    // stage and own priority
-    table[0] = stage::LAST;
-    table[1] = 0;
-    table[16] = stage::LAST;
-    table[17] = 254;
-    // prev, w's pointer, the link's pointer and s
-    table[2] = n;
-    table[3] = n;
-    table[8] = n;
-    table[14] = n;
-    table[18] = n;
-    table[19] = n;
-    table[24] = n;
-    table[30] = n;
-    // w's mark, the link's mark and Locked
-    table[4] = 1;
-    table[9] = 1;
-    table[13] = 1;
-    table[20] = 1;
-    table[25] = 1;
-    table[29] = 1;
-    // the zeros
-    table[5] = 0;
-    table[15] = 0;
-    table[21] = 0;
-    table[31] = 0;
-    table
-}
-
-// How far x lies above y.
-fn above(x: u8, y: u8) -> u8
-    ensures { result ≡ x - y }
-{
-    if x > y { x - y } else { 0 }
-}
-
-// The greater of the two.
-fn greater(x: u8, y: u8) -> u8
-    ensures { result ≡ max x y }
-{
-    if x > y { x } else { y }
-}
-
-// The lesser of the two.
-fn lesser(x: u8, y: u8) -> u8
-    ensures { result ≡ min x y }
-{
-    if x < y { x } else { y }
+    let busy = greatest_row(254, n);
+    [greatest_row(0, n), busy, busy, busy, busy]
 }
 
 // How far off the bytes of all records are, with one more record. Nowhere, if so before and each of its bytes lies between its two.
-fn farther(
-    mut off: [u8; 16],
-    image: &[u8],
-    at: usize,
-    least: &[u8; 80],
-    low: usize,
-    greatest: &[u8; 32],
-    high: usize,
-) -> [u8; 16]
-    requires { (at + 16 ≤ length image.now) × (low ≤ 64) × (high ≤ 16) }
-    ensures { each (within 0 0) result ≡ (each (within 0 0) off && lanes_right image.now at least.now low greatest.now high) }
+#[tactic(auto, unfolding(crate::specs::Parts::below))]
+fn farther(mut off: [u8; 16], bytes: &[u8; 16], least: &[u8; 16], greatest: &[u8; 16]) -> [u8; 16]
+    ensures lanes { list_all (within 0 0) result ≡ (list_all (within 0 0) off && lanes_right bytes.now least.now greatest.now) }
+    ensures fit { (k : ℕ) → get_or bytes.now k 0 < 256 }
 {
-    for k in 0..16 {
-        let x = image[at + k];
-        off[k] = greater(
-            off[k],
-            greater(above(least[low + k], x), above(x, greatest[high + k])),
-        );
+    for (k, &x) in bytes.iter().enumerate() {
+        off[k] = off[k]
+            .max(least[k].saturating_sub(x))
+            .max(x.saturating_sub(greatest[k]));
     }
     off
 }
 
-// Whether the first n records from a place on are sound, all in 16 lanes.
-fn sound_many(image: &[u8], first: usize, n: usize) -> bool
-    requires { (first + 16 * n ≤ length image.now) × (n ≤ 64) }
-    ensures { result ≡ records_right image.now n first n }
+// Whether all records are sound, in 16 lanes.
+#[tactic(auto, using(crate::proofs::Tables::records_more))]
+fn sound_many(records: &[[u8; 16]], n: u8) -> bool
+    ensures { result ≡ list_all (record_right n) records.now }
 {
-    let least = least();
-    let greatest = greatest(n as u8);
-    let lows = least_rows();
+    let greatest = greatest(n);
     let mut off = [0; 16];
-    for p in 0..n {
-        let at = first + 16 * p;
+    for record in records {
         // A number that is no stage fails in its own lane, whatever the row.
-        let stage = wide(image[at] % 32);
-        let low = lows[stage];
-        off = farther(
-            off,
-            image,
-            at,
-            &least,
-            wide(low),
-            &greatest,
-            wide(lesser(low, 16)),
-        );
+        let row = usize::from(ROWS[usize::from(record[0] % 32)]);
+        off = farther(off, record, &LEAST[row], &greatest[row]);
     }
     all_within(0, 0, &off)
 }
 
 // Whether a link is sound in a table of n modules.
+#[tactic(auto, using(laws::proofs::Said::said), unfolding(stage::specs::Sound::sound_link))]
 fn sound_link(n: u8, l: Link) -> bool
     ensures { result ≡ sound_link n l }
 {
-    if n < l.pointer {
-        return false;
-    }
-    l.mark <= 1
-}
-
-// Whether x lies between the two.
-fn is_within(low: u8, high: u8, x: u8) -> bool
-    ensures { result ≡ within low high x }
-{
-    if x < low {
-        return false;
-    }
-    x <= high
+    l.pointer <= n && l.mark <= 1
 }
 
 // Whether own priority is 0 at stage 0 and 1 to 254 elsewhere.
+#[tactic(auto, using(laws::proofs::Said::said), unfolding(stage::specs::Sound::sound_own))]
 fn sound_own(stage: u8, own: u8) -> bool
     ensures { result ≡ sound_own stage own }
 {
     match stage {
         0 => own == 0,
-        _ => is_within(1, 254, own),
+        _ => (1..=254).contains(&own),
     }
 }
 
@@ -250,134 +159,127 @@ fn sound_own(stage: u8, own: u8) -> bool
 fn set_at(low: u8, high: u8, stage: u8, x: u8) -> bool
     ensures { result ≡ at (within low high stage) (leb 1 x) }
 {
-    if stage < low {
-        return true;
-    }
-    if high < stage {
-        return true;
-    }
-    1 <= x
+    !(low..=high).contains(&stage) || 1 <= x
 }
 
 // Whether a module's stage allows its own priority, prev, w's pointer and s.
+#[tactic(auto, using(laws::proofs::Said::said), unfolding(stage::specs::Sound::sound_stage))]
 fn sound_stage(stage: u8, own: u8, prev: u8, pointer: u8, s: u8) -> bool
     ensures { result ≡ sound_stage stage own prev pointer s }
 {
-    if stage::LAST < stage {
-        return false;
-    }
-    if !sound_own(stage, own) {
-        return false;
-    }
-    if !set_at(4, 10, stage, prev) {
-        return false;
-    }
-    if !set_at(7, 7, stage, pointer) {
-        return false;
-    }
-    set_at(17, 18, stage, s)
+    stage <= stage::LAST
+        && sound_own(stage, own)
+        && set_at(4, 10, stage, prev)
+        && set_at(7, 7, stage, pointer)
+        && set_at(17, 18, stage, s)
 }
 
 // Whether a module's private part is sound in a table of n modules.
+#[tactic(auto, using(laws::proofs::Said::said), unfolding(stage::specs::Sound::sound_private))]
 fn sound_private(n: u8, me: Private) -> bool
     ensures { result ≡ sound_private n me }
 {
-    if !sound_link(n, me.w) {
-        return false;
-    }
-    if n < me.prev {
-        return false;
-    }
-    if n < me.s {
-        return false;
-    }
-    sound_stage(me.stage, me.own, me.prev, me.w.pointer, me.s)
+    sound_link(n, me.w)
+        && me.prev <= n
+        && me.s <= n
+        && sound_stage(me.stage, me.own, me.prev, me.w.pointer, me.s)
 }
 
 // Whether a module's shared part is sound in a table of n modules.
+#[tactic(auto, using(laws::proofs::Said::said), unfolding(stage::specs::Sound::sound_shared))]
 fn sound_shared(n: u8, its: Shared) -> bool
     ensures { result ≡ sound_shared n its }
 {
-    if !sound_link(n, its.link) {
-        return false;
-    }
-    its.locked <= 1
+    sound_link(n, its.link) && its.locked <= 1
 }
 
-// Whether the record at a place is sound, rule by rule. The counts may be any, so they are not read.
-fn sound_record(image: &[u8], at: usize, n: u8) -> bool
-    requires { at + 16 ≤ length image.now }
-    ensures { result ≡ record_right image.now n at }
+// Whether a record is sound, rule by rule. The counts may be any, so they are not read.
+#[tactic(auto, unfolding(crate::specs::Parts::record_right, crate::specs::SoundImage::sound_zeros, layout::specs::Layout::private_at, layout::specs::Layout::shared_at, stage::specs::Sound::sound_link, stage::specs::Sound::sound_private, stage::specs::Sound::sound_shared))]
+fn sound_record(bytes: &[u8; 16], n: u8) -> bool
+    ensures { result ≡ record_right n bytes.now }
 {
+    let [
+        stage,
+        own,
+        prev,
+        w_pointer,
+        w_mark,
+        zero5,
+        _,
+        _,
+        pointer,
+        mark,
+        _,
+        _,
+        priority,
+        locked,
+        s,
+        zero15,
+    ] = *bytes;
     let me = Private {
-        stage: image[at],
-        own: image[at + 1],
-        prev: image[at + 2],
+        stage,
+        own,
+        prev,
         w: Link {
-            pointer: image[at + 3],
-            mark: image[at + 4],
+            pointer: w_pointer,
+            mark: w_mark,
             count: 0,
         },
-        s: image[at + 14],
+        s,
     };
     let its = Shared {
         link: Link {
-            pointer: image[at + 8],
-            mark: image[at + 9],
+            pointer,
+            mark,
             count: 0,
         },
-        priority: image[at + 12],
-        locked: image[at + 13],
+        priority,
+        locked,
     };
-    (image[at + 5] == 0) & (image[at + 15] == 0) & sound_private(n, me) & sound_shared(n, its)
+    (zero5 == 0) & (zero15 == 0) & sound_private(n, me) & sound_shared(n, its)
 }
 
-// Whether the first n records from a place on are sound, one after the other. For a few that takes less time than the tables do.
-fn sound_few(image: &[u8], first: usize, n: usize) -> bool
-    requires { (first + 16 * n ≤ length image.now) × (n ≤ 64) }
-    ensures { result ≡ records_right image.now n first n }
+// Whether all records are sound, one after the other. For a few that takes less time than the tables do.
+fn sound_few(records: &[[u8; 16]], n: u8) -> bool
+    ensures { result ≡ list_all (record_right n) records.now }
 {
-    let mut ok = true;
-    for p in 0..n {
-        ok = ok & sound_record(image, first + 16 * p, n as u8);
+    records.iter().all(|record| sound_record(record, n))
+}
+
+// Whether log and records are sound, in an image of n modules that holds so many log entries: n is at most 64, they are at most 256, the records
+// have room above the log, where they end, and each of them and the log are right.
+#[tactic(auto, using(laws::proofs::Said::said), unfolding(crate::specs::Parts::content_right))]
+fn sound_content(above: &[u8], log: &[u8; 256], n: u16, held: usize) -> bool
+    ensures { result ≡ content_right above.now log.now n held }
+{
+    let Some(first) = above.len().checked_sub(16 * usize::from(n)) else {
+        return false;
+    };
+    if 64 < n || 256 < held {
+        return false;
     }
-    ok
-}
-
-// Whether log and records are sound, in an image of n modules that holds so many log entries.
-fn sound_content(image: &[u8], n: usize, held: usize) -> bool
-    requires { (16 * n + 268 ≤ length image.now) × (n ≤ 64) × (held ≤ 256) }
-    ensures { result ≡ content_right image.now n held }
-{
-    let log = sound_log(image, n as u8, held);
-    let first = image.len() - (16 * n + 268);
+    let (records, _) = above[first..].as_chunks::<16>();
+    let n = n as u8;
+    let log = sound_log(log, n, held);
     if n < 4 {
-        return log & sound_few(image, first, n);
+        log & sound_few(records, n)
+    } else {
+        log & sound_many(records, n)
     }
-    log & sound_many(image, first, n)
 }
 
 // Whether the image is sound.
+#[tactic(auto, using(crate::proofs::Whole::too_short))]
 pub fn sound(image: &[u8]) -> bool
     ensures { result ≡ SoundImage.sound image.now }
 {
-    if image.len() < 12 {
+    let Some((above, trailer)) = image.split_last_chunk::<12>() else {
         return false;
-    }
-    let at = image.len() - 12;
-    let n = two(image, at + 2);
-    let held = two(image, at + 4);
-    if image.len() < 16 * n + 268 {
+    };
+    let Some((above, log)) = above.split_last_chunk::<256>() else {
         return false;
-    }
-    if 64 < n {
-        return false;
-    }
-    if 256 < held {
-        return false;
-    }
-    if !sound_trailer(image, at, n) {
-        return false;
-    }
-    sound_content(image, n, held)
+    };
+    let n = u16::from_be_bytes([trailer[2], trailer[3]]);
+    let held = u16::from_be_bytes([trailer[4], trailer[5]]);
+    sound_trailer(trailer, n) && sound_content(above, log, n, usize::from(held))
 }

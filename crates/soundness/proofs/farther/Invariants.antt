@@ -1,18 +1,11 @@
 -- `farther` makes one record's 16 lanes: all so far, and one more.
-use Prim.Native.Nat.{◌+◌, ◌-◌, ◌≤◌}
-use mathlib.Core.Path.{◌≡◌}
-use mathlib.Core.Bool.{◌&&◌}
-use lib.ListN.{length, get_or}
+use Rattle.std.proofs.Common.{◌≡◌, ◌&&◌, length, get_or}
+use Rattle.std.specs.List.{list_all}
 use Rattle.stage.specs.Calls.{within}
-use Rattle.stage.specs.Sound.{each}
 use Rattle.soundness.specs.Parts.{below}
 use Rattle.soundness.proofs.farther.Given as goal
 
 abbrev pub invariant-loop-k : goal.invariant-loop-k
 invariant-loop-k l =
-    (l.k ≤ 16)
-    × (length l.off ≡ 16)
-    × (each (within 0 0) l.off ≡ (each (within 0 0) l.initial.off && below l.k (λ j. within (get_or l.least (l.low + j) 0) (get_or l.greatest (l.high + j) 0) (get_or l.image (l.at + j) 0))))
-
-abbrev pub decreases-loop-k : goal.decreases-loop-k
-decreases-loop-k l = 16 - l.k
+    (length l.off ≡ 16)
+    × (list_all (within 0 0) l.off ≡ (list_all (within 0 0) l.initial.off && below l.k (λ j. within (get_or l.least j 0) (get_or l.greatest j 0) (get_or l.bytes j 0))))

@@ -1,49 +1,20 @@
--- `sound` makes the tests of `checks`, in their order.
+-- `sound` makes the tests of `checks`, in their order, on the parts that it cuts the image into.
 -- Assumes nothing.
+use mathlib.Core.Path.{sym, ◌∙◌}
 use borrow.Author.Rules.{rules}
-use Rattle.soundness.proofs.Whole.{checks, refuses, holds}
+use Rattle.laws.proofs.Said.{no_left, yes_then}
+use Rattle.layout.specs.Layout.{two}
+use Rattle.soundness.proofs.Whole.{checks, answer}
 use Rattle.soundness.proofs.sound.Goals as goal
 
-pub returns-then-image-lt12 : goal.returns-then-image-lt12
-unfolding checks
-returns-then-image-lt12 c = search refuses depth 7
+pub returns-then-sound_trailer : goal.returns-then-sound_trailer
+unfolding checks two
+returns-then-sound_trailer c =
+    answer _ _ _ _ _ c.from_be_bytes-n.result c.from.result _ c.in-Some.ensures.cases c.in-Some-split_last_chunk.ensures.cases (search rules) (search rules)
+    (sym (yes_then _ _ _ (sym c.sound_trailer.ensures ∙ c.if-sound_trailer.true) (sym c.sound_content.ensures)))
 
-pub overflow_sub-at : goal.overflow_sub-at
-unfolding checks
-overflow_sub-at c = search rules
-
-pub overflow_add-at : goal.overflow_add-at
-unfolding checks
-overflow_add-at c = search rules
-
-pub overflow_add-at-2 : goal.overflow_add-at-2
-unfolding checks
-overflow_add-at-2 c = search rules
-
-pub overflow_mul-n : goal.overflow_mul-n
-unfolding checks
-overflow_mul-n c = search rules
-
-pub overflow_add-n : goal.overflow_add-n
-unfolding checks
-overflow_add-n c = search rules
-
-pub returns-then-image-n : goal.returns-then-image-n
-unfolding checks
-returns-then-image-n c = search refuses depth 7
-
-pub returns-then-n-gt64 : goal.returns-then-n-gt64
-unfolding checks
-returns-then-n-gt64 c = search refuses depth 7
-
-pub returns-then-held-gt256 : goal.returns-then-held-gt256
-unfolding checks
-returns-then-held-gt256 c = search refuses depth 7
-
-pub returns-then-not-sound_trailer : goal.returns-then-not-sound_trailer
-unfolding checks
-returns-then-not-sound_trailer c = search refuses depth 7
-
-pub returns : goal.returns
-unfolding checks
-returns c = search holds depth 8
+pub returns-else-sound_trailer : goal.returns-else-sound_trailer
+unfolding checks two
+returns-else-sound_trailer c =
+    answer _ _ _ _ _ c.from_be_bytes-n.result c.from_be_bytes-held.result _ c.in-Some.ensures.cases c.in-Some-split_last_chunk.ensures.cases (search rules) (search rules)
+    (c.if-sound_trailer.false ∙ sym (no_left _ _ (sym c.sound_trailer.ensures ∙ c.if-sound_trailer.false)))
