@@ -15,17 +15,17 @@ returns-then-not-sound-clause-log_after c =
 pub held_of-held-requires : goal.held_of-held-requires
 held_of-held-requires c = said_yes _ _ c.sound.ensures c.if-not-sound.false-raw
 
-pub returns-then-log-held-clause-does : goal.returns-then-log-held-clause-does
-returns-then-log-held-clause-does c =
-    (short c.args.image.now c.args.log.now (said_yes _ _ c.sound.ensures c.if-not-sound.false-raw) _ c.held_of-held.ensures c.if-log-held.true).0
+pub returns-then-log-from-clause-does : goal.returns-then-log-from-clause-does
+returns-then-log-from-clause-does c =
+    (short c.args.image.now c.args.log.now (said_yes _ _ c.sound.ensures c.if-not-sound.false-raw) _ c.held_of-held.ensures c.if-log-from.true).0
 
-pub returns-then-log-held-clause-log_after : goal.returns-then-log-held-clause-log_after
-returns-then-log-held-clause-log_after c =
-    (short c.args.image.now c.args.log.now (said_yes _ _ c.sound.ensures c.if-not-sound.false-raw) _ c.held_of-held.ensures c.if-log-held.true).1
+pub returns-then-log-from-clause-log_after : goal.returns-then-log-from-clause-log_after
+returns-then-log-from-clause-log_after c =
+    (short c.args.image.now c.args.log.now (said_yes _ _ c.sound.ensures c.if-not-sound.false-raw) _ c.held_of-held.ensures c.if-log-from.true).1
 
 pub hand_over-requires : goal.hand_over-requires
 hand_over-requires c =
-    (said_yes _ _ c.sound.ensures c.if-not-sound.false-raw, c.held_of-held.ensures, c.if-log-held.false)
+    (said_yes _ _ c.sound.ensures c.if-not-sound.false-raw, c.held_of-held.ensures, c.if-log-from.false)
 
 pub clear_log-requires : goal.clear_log-requires
 clear_log-requires c =
@@ -33,10 +33,10 @@ clear_log-requires c =
 
 pub returns-clause-does : goal.returns-clause-does
 returns-clause-does c =
-    (takes c.args.image.now c.args.log.now (said_yes _ _ c.sound.ensures c.if-not-sound.false-raw) _ c.held_of-held.ensures _ c.if-log-held.false c.taken.ensures
+    (takes c.args.image.now c.args.log.now (said_yes _ _ c.sound.ensures c.if-not-sound.false-raw) _ c.held_of-held.ensures _ c.if-log-from.false c.taken.ensures
     c.clear_log.ensures c.hand_over.ensures).0
 
 pub returns-clause-log_after : goal.returns-clause-log_after
 returns-clause-log_after c =
-    (takes c.args.image.now c.args.log.now (said_yes _ _ c.sound.ensures c.if-not-sound.false-raw) _ c.held_of-held.ensures _ c.if-log-held.false c.taken.ensures
+    (takes c.args.image.now c.args.log.now (said_yes _ _ c.sound.ensures c.if-not-sound.false-raw) _ c.held_of-held.ensures _ c.if-log-from.false c.taken.ensures
     c.clear_log.ensures c.hand_over.ensures).1
