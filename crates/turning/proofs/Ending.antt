@@ -1,5 +1,5 @@
 -- What is written at the end of input. Assumes nothing.
-use mathlib.Core.Path.{◌≡◌, refl, sym, ap, ap₂}
+use mathlib.Core.Path.{◌≡◌, refl, sym, ap, ap₂, subst⁻¹}
 use mathlib.Core.Bool.{true}
 use mathlib.Core.List.{List, [], ◌∷◌, ◌++◌}
 use Prim.Native.Nat.{ℕ, ◌+◌, ◌≤◌}
@@ -47,6 +47,10 @@ pub end_put : (b out : List ℕ) {k at at' at'' : ℕ} {out' out'' : List ℕ} �
 unfolding end_text
 end_put b out {k} e h writes put =
     put_then (writes_put (omega (arith, lock_short k)) writes) put (ap (λ (x : ℕ). lock_text x ++ log_text (held_log b)) (sym e))
+
+-- a buffer that a `Text` had holds what was left there
+pub put_left : {text out : List ℕ} {at r : ℕ} {out' out'' : List ℕ} → out'' ≡ out' → Put text out at r out' → Put text out at r out''
+put_left {text} {out} {at} {r} e p = subst⁻¹ (λ (l : List ℕ). Put text out at r l) e p
 
 -- no line has begun, so the end alone is written
 pub finish_none : (b line : List ℕ) {out out' : List ℕ} {r : ℕ} → length line ≡ 0 → Put (end_text b) out 0 r out' → Put (finished (standing b line out 0)) out 0 r out'

@@ -4,7 +4,7 @@ use native.Mathlib.Omega.{arith}
 use borrow.Author.Rules.{rules}
 use Rattle.lines.proofs.Texts.{reply_short}
 use Rattle.lines.proofs.Putting.{room_left}
-use Rattle.turning.proofs.Ending.{finish_none, finish_line}
+use Rattle.turning.proofs.Ending.{finish_none, finish_line, put_left}
 use Rattle.turning.proofs.finish.Goals as goal
 use Rattle.turning.proofs.finish.Goals.{then-not-is_empty, else-not-is_empty}
 
@@ -17,7 +17,8 @@ put_end-requires c =
 
 pub returns : goal.returns
 returns c =
-    rw (← c.line-line.ensures)
+    put_left {out' = c.put_end.new.text.buffer.now} (search rules)
+    (rw (← c.line-line.ensures)
     (elim c.if-not-is_empty.branch [
       | then-not-is_empty w ↦
           finish_line _ _ (grind arith) w.turn.ensures (omega (arith, c.requires)) w.put_reply.ensures.writes
@@ -25,4 +26,4 @@ returns c =
       | else-not-is_empty w ↦
           finish_none _ _ (grind arith)
           (rw (w.image-is, w.text-is) at c.put_end.ensures.put)
-    ])
+    ]))
