@@ -4,9 +4,11 @@ use mathlib.Core.Path.{◌≡◌, refl, sym, ◌∙◌}
 use mathlib.Core.List.{List, [], ◌∷◌, ◌++◌, append_assoc, append-nil, flatten}
 use Prim.Native.Nat.{ℕ}
 use native.Mathlib.Omega.{arith}
-use lib.ListN.{take, replicate}
+use lib.ListN.{length, take, replicate}
 use Rattle.std.proofs.lemmas.Grind.{common_steps}
-use Rattle.lines.specs.Command.{command_of}
+use Rattle.std.specs.Prelude.{cond, ltb, Option, None}
+use Rattle.lines.specs.declared.Command.{Command}
+use Rattle.lines.specs.Command.{spaced, command_of}
 use Rattle.lines.specs.Text.{reply_text}
 use Rattle.turning.specs.Inside.{Session, grown, ended, fed, fed_all, finished, afresh, in_blocks}
 use Rattle.turning.specs.Program.{last_line, lines_from, text_of, output}
@@ -17,9 +19,12 @@ abbrev session : List ℕ → List ℕ → List ℕ → Session
 session b l t = record { image = b; line = l; text = t }
 
 -- the first 17 bytes ask for what the line asks for
+same_kept : (f : List ℕ → Option Command) (l : List ℕ) → cond (ltb 16 (length (take 17 l))) None (f (take 17 l)) ≡ cond (ltb 16 (length l)) None (f l)
+same_kept f l = grind (arith, common_steps)
+
 same_command : (l : List ℕ) → command_of (take 17 l) ≡ command_of l
 unfolding command_of
-same_command l = grind (arith, common_steps)
+same_command l = same_kept spaced l
 
 same_last : (l b : List ℕ) → text_of (last_line (take 17 l)) b ≡ text_of (last_line l) b
 unfolding last_line text_of answer_to image_after

@@ -1,5 +1,5 @@
 -- What is written at the end of input. Assumes nothing.
-use mathlib.Core.Path.{◌≡◌, refl, sym, ap, ap₂}
+use mathlib.Core.Path.{◌≡◌, refl, sym, ap, ap₂, subst⁻¹}
 use mathlib.Core.Bool.{true}
 use mathlib.Core.List.{List, [], ◌∷◌, ◌++◌}
 use Prim.Native.Nat.{ℕ, ◌+◌, ◌≤◌}
@@ -43,10 +43,14 @@ pub ruleset helds = (held_short, held_count, held_there)
 
 -- the two lines of the end
 pub end_put : (b out : List ℕ) {k at at' at'' : ℕ} {out' out'' : List ℕ} →
-    k ≡ lock_word b → at + 9 ≤ length out → length out' ≡ length out → Writes (lock_text k) out at at' out' → Put (log_text (held_log b)) out' at' at'' out'' → Put (end_text b) out at at'' out''
+    k ≡ lock_word b → at + 9 ≤ length out → Writes (lock_text k) out at at' out' → Put (log_text (held_log b)) out' at' at'' out'' → Put (end_text b) out at at'' out''
 unfolding end_text
-end_put b out {k} e h same writes put =
-    put_then (writes_put (omega (arith, lock_short k)) same writes) put (ap (λ (x : ℕ). lock_text x ++ log_text (held_log b)) (sym e))
+end_put b out {k} e h writes put =
+    put_then (writes_put (omega (arith, lock_short k)) writes) put (ap (λ (x : ℕ). lock_text x ++ log_text (held_log b)) (sym e))
+
+-- a buffer that a `Text` had holds what was left there
+pub put_left : {text out : List ℕ} {at r : ℕ} {out' out'' : List ℕ} → out'' ≡ out' → Put text out at r out' → Put text out at r out''
+put_left {text} {out} {at} {r} e p = subst⁻¹ (λ (l : List ℕ). Put text out at r l) e p
 
 -- no line has begun, so the end alone is written
 pub finish_none : (b line : List ℕ) {out out' : List ℕ} {r : ℕ} → length line ≡ 0 → Put (end_text b) out 0 r out' → Put (finished (standing b line out 0)) out 0 r out'
@@ -56,10 +60,10 @@ finish_none b (x ∷ l) e put = absurd (suc-ne-zero (length l) e)
 
 -- what follows the last newline is answered first
 pub finish_line : (b line : List ℕ) {out out' out'' : List ℕ} {r : Reply} {b' : List ℕ} {at at' : ℕ} →
-    (length line ≡ 0 → ⊥) → Turns line b r b' → 6 ≤ length out → length out' ≡ length out → Writes (reply_text r) out 0 at out' → Put (end_text b') out' at at' out'' →
+    (length line ≡ 0 → ⊥) → Turns line b r b' → 6 ≤ length out → Writes (reply_text r) out 0 at out' → Put (end_text b') out' at at' out'' →
     Put (finished (standing b line out 0)) out 0 at' out''
 unfolding finished standing text_of last_line
-finish_line b [] begun turns h same writes put = absurd (begun refl)
-finish_line b (x ∷ l) {r = r} begun turns h same writes put =
-    put_then (writes_put (omega (arith, reply_short r)) same writes) put
+finish_line b [] begun turns h writes put = absurd (begun refl)
+finish_line b (x ∷ l) {r = r} begun turns h writes put =
+    put_then (writes_put (omega (arith, reply_short r)) writes) put
     (ap₂ (λ (s : Reply) (k : List ℕ). reply_text s ++ end_text k) (sym turns.says) (sym turns.leaves))

@@ -1,37 +1,27 @@
 -- What one line of input does on an image. Document 01, "The program `turns`": "A line over 16 bytes, an empty line and anything else are malformed; such a line
 -- is no call and prints `x 9`, also where the image is unsound."
-use Rattle.std.specs.Prelude.{ℕ, ◌≡◌, List, Option, None, Some, Ok, Err}
+use Rattle.std.specs.Prelude.{ℕ, ◌≡◌, List, Err, option_map, unwrap_or}
 use Rattle.stage.specs.Calls.{Call, set_up, begin_acquisition, begin_release, step}
 use Rattle.image.specs.Call.{reply, image}
 use Rattle.lines.specs.Command.{command_of}
 use Rattle.lines.specs.declared.Command.{Command}
-use Rattle.lines.specs.declared.Command.TheVariants.{SetUp, BeginAcquisition, BeginRelease, Step, Malformed}
+use Rattle.lines.specs.declared.Command.TheVariants.{SetUp, BeginAcquisition, BeginRelease, Step}
 use Rattle.stage.specs.Answers.{Reply}
 use Rattle.stage.specs.declared.Refusal.TheVariants.{Malformed}
 
 -- the call of a command
-unfoldable pub call_of : Command → Option Call
-call_of (SetUp k) = Some (set_up k)
-call_of (BeginAcquisition p r) = Some (begin_acquisition p r)
-call_of (BeginRelease p) = Some (begin_release p)
-call_of (Step p) = Some (step p)
-call_of Malformed = None
-
--- what is said on the image b, and the image after it
-unfoldable pub reply_of : Option Call → List ℕ → Reply
-reply_of (Some c) b = reply c b
-reply_of None b = Err Malformed
-
-unfoldable pub image_of : Option Call → List ℕ → List ℕ
-image_of (Some c) b = image c b
-image_of None b = b
+unfoldable pub call_of : Command → Call
+call_of (SetUp k) = set_up k
+call_of (BeginAcquisition p r) = begin_acquisition p r
+call_of (BeginRelease p) = begin_release p
+call_of (Step p) = step p
 
 -- what the line l is answered on the image b, and the image that it leaves
 unfoldable pub answer_to : List ℕ → List ℕ → Reply
-answer_to l b = reply_of (call_of (command_of l)) b
+answer_to l b = unwrap_or (option_map (λ c. reply (call_of c) b) (command_of l)) (Err Malformed)
 
 unfoldable pub image_after : List ℕ → List ℕ → List ℕ
-image_after l b = image_of (call_of (command_of l)) b
+image_after l b = unwrap_or (option_map (λ c. image (call_of c) b) (command_of l)) b
 
 -- what the contract of `turn` says
 pub record Turns (l b : List ℕ) (r : Reply) (b' : List ℕ) : Type 0 where

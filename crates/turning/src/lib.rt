@@ -11,7 +11,7 @@ ghost use Rattle.turning.specs.Inside.{fed, fed_all, finished, grown, standing, 
 ghost use Rattle.turning.specs.Program.{held_log, end_text};
 ghost use Rattle.turning.specs.Turn.{Turns};
 
-use lines::Command;
+use lines::{Command, Text};
 use stage::{Refusal, Reply};
 use std::io::{Read, Write};
 use std::marker::Model;
@@ -69,34 +69,35 @@ impl Kept {
 }
 
 // What one line does on an image.
-#[tactic(auto, unfolding(crate::specs::Turn::call_of, crate::specs::Turn::reply_of, crate::specs::Turn::image_of, crate::specs::Turn::answer_to, crate::specs::Turn::image_after))]
+#[tactic(auto, unfolding(crate::specs::Turn::call_of, crate::specs::Turn::answer_to, crate::specs::Turn::image_after))]
 pub fn turn(image: &mut [u8], line: &[u8]) -> Reply
     ensures { Turns line.now image.old result image.new }
 {
-    let command = lines::parse(line);
+    let Some(command) = lines::parse(line) else {
+        return Err(Refusal::Malformed);
+    };
     match command {
         Command::SetUp(n) => whole::set_up(image, n),
         Command::BeginAcquisition(p, priority) => image::begin_acquisition(image, p, priority),
         Command::BeginRelease(p) => image::begin_release(image, p),
         Command::Step(p) => image::step(image, p),
-        Command::Malformed => Err(Refusal::Malformed),
     }
 }
 
-// Takes a byte of input. The result is the place after the text.
+// Takes a byte of input, and puts the answer of a line that it ends.
 #[tactic(auto, using(crate::proofs::Feeding::replies), unfolding(crate::specs::Inside::fed, crate::specs::Inside::ended, crate::specs::Inside::standing))]
-fn feed(image: &mut [u8], kept: &mut Kept, x: u8, out: &mut [u8], at: usize) -> usize
-    requires { at + 6 ≤ length out.old }
-    ensures session { standing image.new kept.new out.new result ≡ fed (standing image.old kept.old out.old at) x }
-    ensures at_bound { result ≤ at + 6 }
+fn feed(image: &mut [u8], kept: &mut Kept, x: u8, text: &mut Text)
+    requires { text.old.at + 6 ≤ length text.old.buffer.now }
+    ensures session { standing image.new kept.new text.new.buffer.now text.new.at ≡ fed (standing image.old kept.old text.old.buffer.now text.old.at) x }
+    ensures at_bound { text.new.at ≤ text.old.at + 6 }
+    ensures same_length { length text.new.buffer.now ≡ length text.old.buffer.now }
+    ensures same_buffer { text.new.buffer.ghost_name ≡ text.old.buffer.ghost_name }
 {
     if x == b'\n' {
-        let reply = turn(image, kept.line());
+        text.put_reply(turn(image, kept.line()));
         kept.clear();
-        lines::put_reply(out, at, reply)
     } else {
         kept.push(x);
-        at
     }
 }
 
@@ -107,11 +108,11 @@ fn answer(image: &mut [u8], kept: &mut Kept, block: &[u8], out: &mut [u8]) -> us
     ensures session { standing image.new kept.new out.new result ≡ fed_all (standing image.old kept.old out.old 0) block.now }
     ensures at_bound { result ≤ length out.new }
 {
-    let mut at = 0;
+    let mut text = Text { buffer: out, at: 0 };
     for &x in block {
-        at = feed(image, kept, x, out, at);
+        feed(image, kept, x, &mut text);
     }
-    at
+    text.at
 }
 
 // How many entries of a log were taken.
@@ -126,22 +127,24 @@ fn taken_of(reply: Reply) -> usize
 
 // Takes the log and puts its line.
 #[tactic(auto, using(crate::proofs::Ending::helds))]
-fn put_held(image: &mut [u8], out: &mut [u8], at: usize) -> usize
-    requires { at + 1028 ≤ length out.old }
-    ensures { Put (log_text (held_log image.old)) out.old at result out.new }
+fn put_held(image: &mut [u8], text: &mut Text)
+    requires { text.old.at + 1028 ≤ length text.old.buffer.now }
+    ensures put { Put (log_text (held_log image.old)) text.old.buffer.now text.old.at text.new.at text.new.buffer.now }
+    ensures same_buffer { text.new.buffer.ghost_name ≡ text.old.buffer.ghost_name }
 {
     let mut log = [0u8; 256];
     let held = taken_of(whole::take_log(image, &mut log));
-    lines::put_log(out, at, &log[..held])
+    text.put_log(&log[..held]);
 }
 
 // Puts the lines of the end of input.
-fn put_end(image: &mut [u8], out: &mut [u8], at: usize) -> usize
-    requires { at + 1037 ≤ length out.old }
-    ensures { Put (end_text image.old) out.old at result out.new }
+fn put_end(image: &mut [u8], text: &mut Text)
+    requires { text.old.at + 1037 ≤ length text.old.buffer.now }
+    ensures put { Put (end_text image.old) text.old.buffer.now text.old.at text.new.at text.new.buffer.now }
+    ensures same_buffer { text.new.buffer.ghost_name ≡ text.old.buffer.ghost_name }
 {
-    let log = lines::put_lock(out, at, image::lock_word(image));
-    put_held(image, out, log)
+    text.put_lock(image::lock_word(image));
+    put_held(image, text);
 }
 
 // Takes the end of input.
@@ -150,14 +153,14 @@ fn finish(image: &mut [u8], kept: &Kept, out: &mut [u8]) -> usize
     requires { 1043 ≤ length out.old }
     ensures { Put (finished (standing image.old kept.now out.old 0)) out.old 0 result out.new }
 {
+    let mut text = Text { buffer: out, at: 0 };
     let line = kept.line();
     let is_empty = line.is_empty();
-    let at = if is_empty {
-        0
-    } else {
-        lines::put_reply(out, 0, turn(image, line))
-    };
-    put_end(image, out, at)
+    if !is_empty {
+        text.put_reply(turn(image, line));
+    }
+    put_end(image, &mut text);
+    text.at
 }
 
 // The program, on the input that it reads and the output that it writes. The text of a block has at most six bytes for each of its own, were they

@@ -9,7 +9,7 @@ use Rattle.turning.specs.Program.{held_log}
 use Rattle.turning.proofs.Ending.{held_short, helds}
 use Rattle.turning.proofs.put_held.Goals as goal
 
-pub returns : goal.returns
-returns c =
+pub returns-clause-put : goal.returns-clause-put
+returns-clause-put c =
     let log_is : take c.taken_of-held.result c.take_log.new.log ≡ held_log c.args.image.now = grind (arith, helds) in
-    writes_put (omega (arith, log_short (held_log c.args.image.now), held_short c.args.image.now)) c.put_log.auto.out (rw log_is at c.put_log.ensures)
+    writes_put (omega (arith, log_short (held_log c.args.image.now), held_short c.args.image.now)) (rw log_is at c.put_log.ensures.writes)
