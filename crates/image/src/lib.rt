@@ -10,7 +10,7 @@ ghost use Rattle.stage.specs.Calls as Calls;
 ghost use Rattle.stage.specs.Calls.{begin_acquisition, begin_release, admits, capacity};
 ghost use Rattle.stage.specs.Table.{after_step};
 ghost use Rattle.stage.specs.Turns.{next_after};
-ghost use Rattle.inplace.specs.InPlace.{Lies, link_at, link_put};
+ghost use Rattle.inplace.specs.InPlace.{lies, link_at, link_put};
 ghost use Rattle.layout.specs.Layout.{byte, two, record_at, private_at, shared_at, read, put};
 ghost use Rattle.layout.proofs.Stores.{puts};
 ghost use Rattle.layout.proofs.Changes.{private_bytes, shared_bytes, length_bytes, link_in};
@@ -103,9 +103,9 @@ fn link_in(at: usize, part: Place) -> Place
 }
 
 // The link at a place.
-#[tactic(auto, unfolding(inplace::specs::InPlace::link_at, layout::specs::Layout::two))]
+#[tactic(auto, unfolding(inplace::specs::InPlace::lies, inplace::specs::InPlace::link_at, layout::specs::Layout::two))]
 fn link_at(image: &[u8], l: Place) -> Link
-    requires { Lies l image.now }
+    requires { lies l (length image.now) ≡ true }
     ensures { result ≡ link_at image.now l }
 {
     Link {
@@ -116,7 +116,7 @@ fn link_at(image: &[u8], l: Place) -> Link
 }
 
 // The private part of the record at a place.
-#[tactic(auto, using(layout::proofs::Changes::w_there), unfolding(layout::specs::Layout::private_at))]
+#[tactic(auto, using(layout::proofs::Changes::w_there), unfolding(inplace::specs::InPlace::lies, layout::specs::Layout::private_at))]
 fn private_at(image: &[u8], at: usize) -> Private
     requires { at + 16 ≤ length image.now }
     ensures { result ≡ private_at image.now at }
@@ -131,7 +131,7 @@ fn private_at(image: &[u8], at: usize) -> Private
 }
 
 // The shared part of the record at a place.
-#[tactic(auto, using(layout::proofs::Changes::its_there), unfolding(layout::specs::Layout::shared_at))]
+#[tactic(auto, using(layout::proofs::Changes::its_there), unfolding(inplace::specs::InPlace::lies, layout::specs::Layout::shared_at))]
 fn shared_at(image: &[u8], at: usize) -> Shared
     requires { at + 16 ≤ length image.now }
     ensures { result ≡ shared_at image.now at }
@@ -154,9 +154,9 @@ fn put_two(image: &mut [u8], at: usize, k: u16)
 }
 
 // Stores a link at a place.
-#[tactic(auto, unfolding(inplace::specs::InPlace::link_put))]
+#[tactic(auto, unfolding(inplace::specs::InPlace::lies, inplace::specs::InPlace::link_put))]
 fn put_link(image: &mut [u8], at: Place, l: Link)
-    requires { Lies at image.old }
+    requires { lies at (length image.old) ≡ true }
     ensures { image.new ≡ link_put image.old at l }
 {
     image[at.pointer] = l.pointer;
@@ -165,7 +165,7 @@ fn put_link(image: &mut [u8], at: Place, l: Link)
 }
 
 // Stores a private part in the record at a place.
-#[tactic(auto, unfolding(inplace::specs::InPlace::link_put))]
+#[tactic(auto, unfolding(inplace::specs::InPlace::lies, inplace::specs::InPlace::link_put))]
 fn put_private(image: &mut [u8], at: usize, me: Private)
     requires { at + 16 ≤ length image.old }
     ensures { image.new ≡ puts image.old at (private_bytes me) }
@@ -178,7 +178,7 @@ fn put_private(image: &mut [u8], at: usize, me: Private)
 }
 
 // Stores a shared part in the record at a place.
-#[tactic(auto, unfolding(inplace::specs::InPlace::link_put))]
+#[tactic(auto, unfolding(inplace::specs::InPlace::lies, inplace::specs::InPlace::link_put))]
 fn put_shared(image: &mut [u8], at: usize, its: Shared)
     requires { at + 16 ≤ length image.old }
     ensures { image.new ≡ puts image.old at (shared_bytes its) }

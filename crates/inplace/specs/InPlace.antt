@@ -1,5 +1,5 @@
 -- A link that stays where it lies in bytes, and its swap. Document 02, R-3: "Compare in the image itself; no answer or byte differs."
-use Rattle.std.specs.Prelude.{ℕ, ◌+◌, ◌*◌, ◌/◌, ◌%◌, ◌≤◌, Bool, true, false, cond, ◌&&◌, List, length, nat_le, slice_index, slice_set, Ok, Err}
+use Rattle.std.specs.Prelude.{ℕ, ◌+◌, ◌*◌, ◌/◌, ◌%◌, Bool, true, false, cond, ◌&&◌, List, length, nat_le, slice_index, slice_set, Ok, Err}
 use Rattle.link.specs.Operations.{swapped, Swapped}
 use Rattle.link.specs.declared.Link.{Link}
 use Rattle.inplace.specs.declared.Place.{Place}
@@ -7,9 +7,6 @@ use Rattle.inplace.specs.declared.Place.{Place}
 -- whether a link at this place lies within so many bytes
 unfoldable pub lies : Place → ℕ → Bool
 lies l k = nat_le (l.pointer + 2) k && nat_le (l.count + 2) k
-
-abbrev pub Lies : Place → List ℕ → Type 0
-Lies l b = (l.pointer + 2 ≤ length b) × (l.count + 2 ≤ length b)
 
 -- the link that lies there, and the bytes with another one there: its pointer, its mark, and its count, the greater byte first
 unfoldable pub link_at : List ℕ → Place → Link

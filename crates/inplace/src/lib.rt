@@ -5,11 +5,11 @@
 // `link` nor the machine above it knows a byte.
 #![tactic(auto)]
 
-ghost use Rattle.std.specs.Prelude.{◌≡◌};
+ghost use Rattle.std.specs.Prelude.{◌≡◌, true, length};
 ghost use Rattle.link.specs.Count.{next, size};
 ghost use Rattle.link.specs.Operations.{same};
 ghost use Rattle.inplace.specs.InPlace as InPlace;
-ghost use Rattle.inplace.specs.InPlace.{Lies, link_at, link_put, swapped_in};
+ghost use Rattle.inplace.specs.InPlace.{link_at, link_put, swapped_in};
 
 use link::Link;
 
@@ -29,18 +29,18 @@ fn lies(l: Place, length: usize) -> bool
 }
 
 // The count of the link at a place.
-#[tactic(auto, unfolding(crate::specs::InPlace::link_at))]
+#[tactic(auto, unfolding(crate::specs::InPlace::lies, crate::specs::InPlace::link_at))]
 fn count_at(bytes: &[u8], l: Place) -> u16
-    requires { Lies l bytes.now }
+    requires { InPlace.lies l (length bytes.now) ≡ true }
     ensures { result ≡ (link_at bytes.now l).count }
 {
     u16::from_be_bytes([bytes[l.count], bytes[l.count + 1]])
 }
 
 // Whether the links at two places are equal in all three parts.
-#[tactic(auto, unfolding(link::specs::Operations::same, crate::specs::InPlace::link_at))]
+#[tactic(auto, unfolding(link::specs::Operations::same, crate::specs::InPlace::lies, crate::specs::InPlace::link_at))]
 fn same_in_place(bytes: &[u8], l: Place, expected: Place) -> bool
-    requires { Lies l bytes.now × Lies expected bytes.now }
+    requires { (InPlace.lies l (length bytes.now) ≡ true) × (InPlace.lies expected (length bytes.now) ≡ true) }
     ensures { result ≡ same (link_at bytes.now l) (link_at bytes.now expected) }
 {
     bytes[l.pointer] == bytes[expected.pointer]
@@ -49,9 +49,9 @@ fn same_in_place(bytes: &[u8], l: Place, expected: Place) -> bool
 }
 
 // The link at a place.
-#[tactic(auto, unfolding(crate::specs::InPlace::link_at))]
+#[tactic(auto, unfolding(crate::specs::InPlace::lies, crate::specs::InPlace::link_at))]
 fn read(bytes: &[u8], l: Place) -> Link
-    requires { Lies l bytes.now }
+    requires { InPlace.lies l (length bytes.now) ≡ true }
     ensures { result ≡ link_at bytes.now l }
 {
     Link {
@@ -62,9 +62,9 @@ fn read(bytes: &[u8], l: Place) -> Link
 }
 
 // Writes a link to a place.
-#[tactic(auto, unfolding(crate::specs::InPlace::link_put))]
+#[tactic(auto, unfolding(crate::specs::InPlace::lies, crate::specs::InPlace::link_put))]
 fn put(bytes: &mut [u8], l: Place, link: Link)
-    requires { Lies l bytes.old }
+    requires { InPlace.lies l (length bytes.old) ≡ true }
     ensures { bytes.new ≡ link_put bytes.old l link }
 {
     let [high, low] = link.count.to_be_bytes();
@@ -77,7 +77,7 @@ fn put(bytes: &mut [u8], l: Place, link: Link)
 impl Place {
     // The swap of the link here, expecting the one that lies at another place; whether it was done. Where not, the link found is handed
     // back to that other place. If one of the two does not lie within the bytes, nothing happens.
-    #[tactic(auto, unfolding(crate::specs::InPlace::swapped_in, crate::specs::InPlace::left, crate::specs::InPlace::lies, link::specs::Operations::swapped, link::specs::Operations::changed))]
+    #[tactic(auto, unfolding(crate::specs::InPlace::swapped_in, crate::specs::InPlace::left, link::specs::Operations::swapped, link::specs::Operations::changed))]
     pub fn swap(self, bytes: &mut [u8], expected: Place, to: u8) -> bool
         ensures { (result ≡ (swapped_in (next size) bytes.old self expected to).0) × (bytes.new ≡ (swapped_in (next size) bytes.old self expected to).1) }
     {
