@@ -1,4 +1,4 @@
--- Tests of every element of a list, and of every number from 1 on, as loops make them: all so far, and one more.
+-- Tests of every element of a list, and of every number from 1 on.
 -- Assumes nothing.
 use Prim.Native.Nat.{ℕ, zero, suc, ◌≤◌}
 use mathlib.Core.Path.{◌≡◌, refl}

@@ -6,13 +6,13 @@
 // or more, on what the records hold.
 //
 // In a smaller table the records are looked at rule by rule (`sound_few`). In a larger one (`sound_many`) a record is looked at in 16
-// lanes, a byte in each. A byte's place and the record's stage give it a least and a greatest, which two small tables have. `off` keeps,
+// lanes, a byte in each. A byte's place and the record's stage give it a least and a greatest, which two tables of rows have. `off` keeps,
 // for each place, how far any byte there lay outside of its two, and is asked once, at the end. The compiler holds 16 lanes in one
 // register only if it can do the same in all of them, and if nothing else looks at a record's bytes: so the rules are rows of numbers,
 // looked up by the stage, and are not written out byte by byte. That these rows are the rules is shown in proofs/Tables.antt.
 #![tactic(auto)]
 
-ghost use Rattle.std.specs.Prelude.{ℕ, ◌≡◌, ◌&&◌, ◌*◌, ◌<◌, ◌≤◌, leb, length, get_or};
+ghost use Rattle.std.specs.Prelude.{ℕ, ◌≡◌, ◌&&◌, ◌<◌, ◌≤◌, leb, get_or};
 ghost use Rattle.std.specs.List.{list_all};
 ghost use Rattle.stage.specs.Calls.{within};
 ghost use Rattle.stage.specs.Sound.{at, sound_link, sound_own, sound_stage, sound_private, sound_shared};
@@ -22,7 +22,7 @@ ghost use Rattle.soundness.specs.Parts.{trailer_right, log_right, record_right, 
 use link::Link;
 use stage::{Private, Shared};
 
-// Whether every byte lies between the two.
+// Whether every byte lies between the two. It looks at all of them, whatever it has found, so that there is no branch for each.
 fn all_within(low: u8, high: u8, part: &[u8]) -> bool
     ensures { result ≡ list_all (within low high) part.now }
 {
@@ -56,7 +56,7 @@ fn sound_log(log: &[u8; 256], n: u8, held: usize) -> bool
     all_within(1, n, entries) & all_within(0, 0, rest)
 }
 
-// The least that each byte of a record may be, in five rows.
+// The least that each byte of a record may be, in five rows of which a stage has one.
 static LEAST: [[u8; 16]; 5] = [
     // Each may be 0.
     [0, 0, 0, 0, 0, 0, 0, 0, 0, 0, 0, 0, 0, 0, 0, 0],
@@ -70,12 +70,12 @@ static LEAST: [[u8; 16]; 5] = [
     [0, 1, 0, 0, 0, 0, 0, 0, 0, 0, 0, 0, 0, 0, 1, 0],
 ];
 
-// The row of each stage. There are 32 places so that any number's remainder by 32 has one.
+// Which row each stage has. There are 32 places so that any number's remainder by 32 has one.
 static ROWS: [u8; 32] = [
     0, 1, 1, 1, 2, 2, 2, 3, 2, 2, 2, 1, 1, 1, 1, 1, 1, 4, 4, 1, 1, 1, 1, 1, 1, 1, 1, 1, 1, 1, 1, 1,
 ];
 
-// The greatest that each byte of a record may be, but for own priority, which is given.
+// A row of the greatest that each byte of a record may be, where own priority's is given.
 fn greatest_row(own: u8, n: u8) -> [u8; 16]
     ensures { result ≡ greatest_row own n }
 {
@@ -99,7 +99,7 @@ fn greatest_row(own: u8, n: u8) -> [u8; 16]
     ]
 }
 
-// The same by the row of the stage. Own priority is 0 at stage 0, and 254 at most at the others.
+// The greatest that each byte of a record may be, in rows as `LEAST` has them: own priority is 0 at stage 0, and at most 254 at the others.
 fn greatest(n: u8) -> [[u8; 16]; 5]
     ensures { result ≡ greatest_rows n }
 {
@@ -246,8 +246,8 @@ fn sound_few(records: &[[u8; 16]], n: u8) -> bool
     records.iter().all(|record| sound_record(record, n))
 }
 
-// Whether log and records are sound, in an image of n modules that holds so many log entries: n is at most 64, they are at most 256, the records
-// have room above the log, where they end, and each of them and the log are right.
+// Whether log and records are sound, in an image of n modules that holds so many log entries: n is at most 64, the entries are at most 256, the
+// records have room above the log, where they end, and the log and each record are right.
 #[tactic(auto, using(laws::proofs::Said::said), unfolding(crate::specs::Parts::content_right))]
 fn sound_content(above: &[u8], log: &[u8; 256], n: u16, held: usize) -> bool
     ensures { result ≡ content_right above.now log.now n held }
