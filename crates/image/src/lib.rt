@@ -205,7 +205,7 @@ fn place(first: usize, p: u8) -> usize
 }
 
 // The module that is named, or the refusal of an unsound image, or `unknown` for a number that is no module's.
-#[tactic(auto, using(crate::proofs::Refusals::no_module, crate::proofs::Refusals::too_low, crate::proofs::Refusals::too_high, laws::proofs::Said::said))]
+#[tactic(auto, using(crate::proofs::Refusals::unsound, crate::proofs::Refusals::no_module, crate::proofs::Refusals::too_low, crate::proofs::Refusals::too_high, laws::proofs::Said::said))]
 fn find(image: &[u8], p: u32, unknown: Refusal) -> Result<u8, Refusal>
     ensures { Finds image.now p unknown result }
 {
@@ -278,6 +278,7 @@ fn admit(image: &mut [u8], frame: Frame, p: u8)
 }
 
 // Stores the parts that a module's step leaves: its private part, the shared part that it looked at, and the lock word.
+#[tactic(auto, unfolding(crate::specs::Inside::parts_put))]
 fn put_parts(image: &mut [u8], m: Module, l: Looked)
     requires { Looks image.old m l }
     ensures { image.new ≡ parts_put image.old m l }
@@ -414,6 +415,7 @@ fn first_able(image: &[u8], frame: Frame, p: u8, end: u8) -> Option<u8>
 }
 
 // The module whose turn is next after the last one.
+#[tactic(auto, using(crate::proofs::Turns::is_after, crate::proofs::Turns::is_before))]
 fn next_after(image: &[u8], last: u8) -> Option<u8>
     requires { IsNumber image.now last }
     ensures { result ≡ next_after (read image.now) last }
@@ -426,6 +428,7 @@ fn next_after(image: &[u8], last: u8) -> Option<u8>
 }
 
 // The lock word of an image, or 0 where it is unsound. It is no call, and changes nothing.
+#[tactic(auto, using(laws::proofs::Said::said), unfolding(crate::specs::Call::lock_word, layout::specs::Layout::read))]
 pub fn lock_word(image: &[u8]) -> u8
     ensures { result ≡ lock_word image.now }
 {
