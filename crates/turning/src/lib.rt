@@ -148,7 +148,6 @@ fn put_end(image: &mut [u8], text: &mut Text)
 }
 
 // Takes the end of input.
-#[tactic(auto, using(crate::proofs::Feeding::replies))]
 fn finish(image: &mut [u8], kept: &Kept, out: &mut [u8]) -> usize
     requires { 1043 ≤ length out.old }
     ensures { Put (finished (standing image.old kept.now out.old 0)) out.old 0 result out.new }
