@@ -73,10 +73,7 @@ impl Kept {
 pub fn turn(image: &mut [u8], line: &[u8]) -> Reply
     ensures { Turns line.now image.old result image.new }
 {
-    let Some(command) = lines::parse(line) else {
-        return Err(Refusal::Malformed);
-    };
-    match command {
+    match lines::parse(line).ok_or(Refusal::Malformed)? {
         Command::SetUp(n) => whole::set_up(image, n),
         Command::BeginAcquisition(p, priority) => image::begin_acquisition(image, p, priority),
         Command::BeginRelease(p) => image::begin_release(image, p),
