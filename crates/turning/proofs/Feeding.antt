@@ -13,20 +13,20 @@ use Rattle.lines.proofs.Putting.{writes_put, front}
 use Rattle.turning.specs.Inside.{Session, fed, fed_all}
 
 -- an answer that was put has at most six bytes
-module _ (r : Reply) (out out' : List ℕ) (at at' : ℕ) (room : at + 6 ≤ length out) (writes : Writes (reply_text r) out at at' out') where
+module _ (r : Reply) {out : List ℕ} {at at' : ℕ} {out' : List ℕ} (writes : Writes (reply_text r) out at at' out') (room : at + 6 ≤ length out) where
   put : Put (reply_text r) out at at' out'
   put = writes_put (omega (arith, reply_short r)) writes
-
-  pub reply_front : take at' out' ≡ take at out ++ reply_text r
-  reply_front = front put
 
   pub reply_near : at' ≤ at + 6
   reply_near = omega (arith, reply_short r, put.after)
 
+  pub reply_front : take at' out' ≡ take at out ++ reply_text r
+  reply_front = front put
+
   pub reply_same : length out' ≡ length out
   reply_same = put.same
 
-pub ruleset replies = (reply_front, reply_near, reply_same)
+pub ruleset replies = (reply_front, reply_same)
 
 -- one input after another
 pub fed_append : (s : Session) (l more : List ℕ) → fed_all s (l ++ more) ≡ fed_all (fed_all s l) more

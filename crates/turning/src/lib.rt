@@ -73,10 +73,7 @@ impl Kept {
 pub fn turn(image: &mut [u8], line: &[u8]) -> Reply
     ensures { Turns line.now image.old result image.new }
 {
-    let Some(command) = lines::parse(line) else {
-        return Err(Refusal::Malformed);
-    };
-    match command {
+    match lines::parse(line).ok_or(Refusal::Malformed)? {
         Command::SetUp(n) => whole::set_up(image, n),
         Command::BeginAcquisition(p, priority) => image::begin_acquisition(image, p, priority),
         Command::BeginRelease(p) => image::begin_release(image, p),
@@ -148,7 +145,6 @@ fn put_end(image: &mut [u8], text: &mut Text)
 }
 
 // Takes the end of input.
-#[tactic(auto, using(crate::proofs::Feeding::replies))]
 fn finish(image: &mut [u8], kept: &Kept, out: &mut [u8]) -> usize
     requires { 1043 ≤ length out.old }
     ensures { Put (finished (standing image.old kept.now out.old 0)) out.old 0 result out.new }
