@@ -97,13 +97,6 @@ kept log Finished no_e = refl
 kept log (Taken k) no_e = refl
 kept log Nobody no_e = refl
 
--- the three parts of a step one after the other
-pub three_stored : (b : List ℕ) (m : Module) (l : Looked) {b₁ b₂ : List ℕ} → b₁ ≡ puts b m.at (private_bytes l.stepped.me) → b₂ ≡ puts b₁ l.at (shared_bytes l.stepped.its) →
-    set b₂ m.frame.trailer l.stepped.lock ≡ parts_put b m l
-unfolding parts_put
-three_stored b m l first second =
-    ap (λ (x : List ℕ). set x m.frame.trailer l.stepped.lock) (second ∙ ap (λ (x : List ℕ). puts x l.at (shared_bytes l.stepped.its)) first)
-
 -- a step
 module _ (b : List ℕ) (m : Module) (l : Looked) (looks : Looks b m l) (bytes : (i : ℕ) → byte b i < 256) where
   -- the parts in the table

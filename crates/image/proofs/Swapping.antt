@@ -16,7 +16,7 @@ use Rattle.link.specs.Operations.{swapped, Swapped}
 use Rattle.link.specs.declared.Link.{Link}
 use Rattle.inplace.specs.declared.Place.{Place}
 use Rattle.stage.specs.Answers.{answer_of}
-use Rattle.stage.specs.Calls.{step, admits}
+use Rattle.stage.specs.Calls.{admits}
 use Rattle.stage.specs.Rows.{goes, with_w, with_link, after9, find, rows, looked, looks_at, stepped}
 use Rattle.stage.specs.Table.{Table, upd, step_of, logged, after_step}
 use Rattle.stage.specs.declared.Answer.{Answer}
@@ -34,7 +34,6 @@ use Rattle.layout.proofs.Changes.{with_shared, w_place, link_place, w_there, its
 use Rattle.layout.proofs.Rewritten.{private_read, shared_read}
 use Rattle.image.specs.Inside.{IsNumber, Says}
 use Rattle.image.proofs.Replies.{answer_said, by_answer}
-use Rattle.image.specs.Call.{Does}
 use Rattle.image.proofs.Modules.{seen}
 use Rattle.image.proofs.Named.{steps}
 use Rattle.image.proofs.Sound.{written}

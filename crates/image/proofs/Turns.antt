@@ -20,7 +20,7 @@ use Rattle.stage.specs.declared.Refusal.{Refusal}
 use Rattle.stage.specs.declared.Refusal.TheVariants.{MarkerOutOfRange}
 use Rattle.image.specs.Call.{Does}
 use Rattle.image.specs.Inside.{Framed, IsNumber, given, unfound, first_able}
-use Rattle.image.specs.Turn.{Turn, refused, found, turn_of, moved, Gives, GivesTurn}
+use Rattle.image.specs.Turn.{Turn, refused, found, turn_of, Gives, GivesTurn}
 use Rattle.image.proofs.Refusals.{chosen, in_range}
 use Rattle.std.specs.Prelude.{Option, None, Some, Ok, Err}
 

@@ -1,5 +1,5 @@
 -- What was put, piece by piece, and a text that has room or none. Assumes nothing.
-use mathlib.Core.Path.{◌≡◌, refl, ◌∙◌, ap, subst, subst⁻¹}
+use mathlib.Core.Path.{◌≡◌, refl, ◌∙◌, ap}
 use mathlib.Core.List.{List, [], ◌∷◌, ◌++◌, append_assoc}
 use Prim.Native.Nat.{ℕ, ◌+◌, ◌≤◌, ◌<◌}
 use native.Mathlib.Omega.{arith}
@@ -34,14 +34,6 @@ module _ {text out : List ℕ} {at r : ℕ} {out' : List ℕ} (p : Put text out 
   pub put_writes : Writes text out at r out'
   unfolding fits place_after written
   put_writes = record { answers = grind (arith, nat_tests, p); leaves = grind (arith, nat_tests, p) }
-
--- the same text
-pub put_same : {text text' out : List ℕ} {at r : ℕ} {out' : List ℕ} → text ≡ text' → Put text out at r out' → Put text' out at r out'
-put_same {out = out} {at} {r} {out'} e p = subst (λ (l : List ℕ). Put l out at r out') e p
-
--- a buffer that a `Text` had holds what was left there
-pub writes_left : {text out : List ℕ} {at r : ℕ} {out' out'' : List ℕ} → Writes text out at r out' → out'' ≡ out' → Writes text out at r out''
-writes_left {text} {out} {at} {r} w e = subst⁻¹ (λ (l : List ℕ). Writes text out at r l) e w
 
 -- it has room, so it was put
 pub writes_put : {text out : List ℕ} {at r : ℕ} {out' : List ℕ} → at + length text ≤ length out → Writes text out at r out' → Put text out at r out'

@@ -11,5 +11,5 @@ pub record Put (text out : List ℕ) (at r : ℕ) (out' : List ℕ) : Type 0 whe
   pub leaves : out' ≡ take at out ++ text ++ drop r out
 
 -- what was read, with the line behind the reference
-abbrev pub read : ℕ × Bor (List ℕ) → ℕ × List ℕ
-read p = (p.0, p.1.now)
+abbrev pub number_and_rest : ℕ × Bor (List ℕ) → ℕ × List ℕ
+number_and_rest p = (p.0, p.1.now)

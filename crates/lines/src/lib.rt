@@ -3,7 +3,7 @@
 
 ghost use Rattle.std.specs.Prelude.{◌≡◌, ◌+◌, ◌-◌, ◌*◌, ◌≤◌, ◌<◌, SomeIff, option_map, length};
 ghost use Rattle.lines.specs.Command.{longer, number, last, command_of};
-ghost use Rattle.lines.specs.Inside.{Put, read};
+ghost use Rattle.lines.specs.Inside.{Put, number_and_rest};
 ghost use Rattle.lines.specs.Text.{decimal, line_text, refusal_text, reply_text, lock_text, entries_text, log_text, Writes};
 
 use stage::Reply;
@@ -20,7 +20,7 @@ pub enum Command {
 // A number with one digit more, if the line begins with one, and the rest of the line.
 fn longer(n: u32, line: &[u8]) -> (u32, &[u8])
     requires { n < 100 }
-    ensures value { read result ≡ longer n line.now }
+    ensures value { number_and_rest result ≡ longer n line.now }
     ensures bound { result.0 < 10 * n + 10 }
 {
     match line {
@@ -31,7 +31,7 @@ fn longer(n: u32, line: &[u8]) -> (u32, &[u8])
 
 // The number at the front of a line, and the rest of the line. It is `0`, or has one to three digits of which the first is not `0`.
 fn number(line: &[u8]) -> Option<(u32, &[u8])>
-    ensures { option_map read result ≡ number line.now }
+    ensures { option_map number_and_rest result ≡ number line.now }
 {
     match line {
         [b'0', rest @ ..] => Some((0, rest)),
