@@ -35,7 +35,7 @@ use Rattle.claims.specs.Claims.{images}
 use Rattle.claims.specs.Turns.{Move, call, turn, Past, stepping, turning, past, image_after, Able, seen, Faithful, Fair, NotRefused}
 use Rattle.std.specs.Prelude.{Some, Ok, Err}
 use Rattle.stage.specs.declared.Refusal.{Refusal}
-use Rattle.stage.specs.declared.Refusal.TheVariants.{MarkerOutOfRange}
+use Rattle.stage.specs.declared.Refusal.TheVariants.{WrongMarker}
 
 -- histories of the contracts -----------------------------------------------------------------------------------------------------
 
@@ -119,7 +119,7 @@ module _ (b : List ℕ) (m : ℕ) (is : sound b ≡ true) where
   -- what a turn on a sound image comes to
   pub turn_is :
       (P : Turn → Type 0)
-      → (within 1 (read b).n m ≡ false → P (T.refused MarkerOutOfRange))
+      → (within 1 (read b).n m ≡ false → P (T.refused WrongMarker))
       → (1 ≤ m → m ≤ (read b).n → ((i : ℕ) → 1 ≤ i → i ≤ (read b).n → rests (read b) i ≡ true) → P nobody)
       → ((q : ℕ) → Serves b m q → P (step_by q))
       → P (turn_of b m)

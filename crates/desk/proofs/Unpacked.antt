@@ -18,7 +18,7 @@ use Rattle.stage.specs.declared.Answer.{Answer}
 use Rattle.stage.specs.declared.Event.{Event}
 use Rattle.stage.specs.declared.Event.TheVariants.{Done, Waiting, Admitted, Joined, Left, Finished, Taken, Nobody}
 use Rattle.stage.specs.declared.Refusal.{Refusal}
-use Rattle.stage.specs.declared.Refusal.TheVariants.{Unsound, NoSuchModule, PriorityOutOfRange, WrongStage, LogFull, LogBufferTooShort, ModulesOutOfRange, BufferTooShort, Malformed, MarkerOutOfRange}
+use Rattle.stage.specs.declared.Refusal.TheVariants.{Unsound, NoSuchModule, WrongPriority, WrongStage, LogFull, ShortLogBuffer, WrongNumberOfModules, ShortBuffer, Malformed, WrongMarker}
 use Rattle.stage.proofs.Events.{Of, agrees}
 use Rattle.stage.proofs.Refusing.{Unrefused, refused_or, is_within}
 use Rattle.layout.specs.Layout.{read}
@@ -37,14 +37,14 @@ refusal : (log : Bool) (k : Refusal) → Back log (Err k)
 unfolding packed unpacked refusal_of
 refusal log Unsound = refl
 refusal log NoSuchModule = refl
-refusal log PriorityOutOfRange = refl
+refusal log WrongPriority = refl
 refusal log WrongStage = refl
 refusal log LogFull = refl
-refusal log LogBufferTooShort = refl
-refusal log ModulesOutOfRange = refl
-refusal log BufferTooShort = refl
+refusal log ShortLogBuffer = refl
+refusal log WrongNumberOfModules = refl
+refusal log ShortBuffer = refl
 refusal log Malformed = refl
-refusal log MarkerOutOfRange = refl
+refusal log WrongMarker = refl
 
 -- what is read of an admission's number, and of a taken log's
 admission : (p : ℕ) → p ≤ 64 → Back false (Ok (answer_of (Admitted p)))

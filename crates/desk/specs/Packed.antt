@@ -6,7 +6,7 @@ use Rattle.stage.specs.Calls.{Call, set_up, begin_acquisition, begin_release, st
 use Rattle.stage.specs.declared.Event.{Event}
 use Rattle.stage.specs.declared.Event.TheVariants.{Done, Waiting, Admitted, Joined, Left, Finished, Taken, Nobody}
 use Rattle.stage.specs.declared.Refusal.{Refusal}
-use Rattle.stage.specs.declared.Refusal.TheVariants.{Unsound, NoSuchModule, PriorityOutOfRange, WrongStage, LogFull, LogBufferTooShort, ModulesOutOfRange, BufferTooShort, Malformed, MarkerOutOfRange}
+use Rattle.stage.specs.declared.Refusal.TheVariants.{Unsound, NoSuchModule, WrongPriority, WrongStage, LogFull, ShortLogBuffer, WrongNumberOfModules, ShortBuffer, Malformed, WrongMarker}
 use Rattle.image.specs.Call.{reply, image}
 use Rattle.image.specs.Turn.{GivesTurn}
 
@@ -60,14 +60,14 @@ unfoldable pub refusal_of : ℕ → Refusal
 refusal_of k =
     cond (eqb k 1) Unsound
     (cond (eqb k 2) NoSuchModule
-    (cond (eqb k 3) PriorityOutOfRange
+    (cond (eqb k 3) WrongPriority
     (cond (eqb k 4) WrongStage
     (cond (eqb k 5) LogFull
-    (cond (eqb k 6) LogBufferTooShort
-    (cond (eqb k 7) ModulesOutOfRange
-    (cond (eqb k 8) BufferTooShort
+    (cond (eqb k 6) ShortLogBuffer
+    (cond (eqb k 7) WrongNumberOfModules
+    (cond (eqb k 8) ShortBuffer
     (cond (eqb k 9) Malformed
-    MarkerOutOfRange))))))))
+    WrongMarker))))))))
 
 -- what a caller reads out of the number
 unfoldable pub unpacked : Bool → ℕ → Reply

@@ -21,13 +21,13 @@ use Rattle.image.specs.declared.Module.{Module}
 use Rattle.image.specs.declared.Looked.{Looked}
 use Rattle.image.proofs.Modules.{entries}
 use Rattle.image.proofs.Refusals.{in_range, refuses, accepts, found}
-use Rattle.stage.specs.declared.Refusal.TheVariants.{NoSuchModule, PriorityOutOfRange, WrongStage, LogFull}
+use Rattle.stage.specs.declared.Refusal.TheVariants.{NoSuchModule, WrongPriority, WrongStage, LogFull}
 use Rattle.stage.specs.declared.Refusal.{Refusal}
 use Rattle.std.specs.Prelude.{Ok, Err}
 
 -- what each asks of a module that was found
 abbrev acquisition_asks : List ℕ → ℕ → ℕ → List (Bool × Refusal)
-acquisition_asks b p r = (not (within 1 254 r), PriorityOutOfRange) ∷ (not (eqb ((read b).private p).stage 0), WrongStage) ∷ []
+acquisition_asks b p r = (not (within 1 254 r), WrongPriority) ∷ (not (eqb ((read b).private p).stage 0), WrongStage) ∷ []
 
 pub acquisition_refused : (b : List ℕ) (p r : ℕ) → refused (begin_acquisition p r) b ≡ unfound b p NoSuchModule ++ acquisition_asks b p r
 unfolding refused refusals unfound read
@@ -66,9 +66,9 @@ module _ (b : List ℕ) (m : Module) (is : IsModule b m) where
     acquisition_given : given (refused (begin_acquisition p r) b) ≡ given (acquisition_asks b p r)
     acquisition_given = asked (begin_acquisition p r) (acquisition_asks b p r) (acquisition_refused b p r)
 
-    pub no_priority : not (within 1 254 r) ≡ true → Does (begin_acquisition p r) b (Err PriorityOutOfRange) b
+    pub no_priority : not (within 1 254 r) ≡ true → Does (begin_acquisition p r) b (Err WrongPriority) b
     unfolding given refusing
-    no_priority outside = refuses (begin_acquisition p r) b PriorityOutOfRange (acquisition_given ∙ simp outside)
+    no_priority outside = refuses (begin_acquisition p r) b WrongPriority (acquisition_given ∙ simp outside)
 
     module _ (least : 1 ≤ r) (most : r ≤ 254) where
       pub not_idle : (m.me.stage ≡ 0 → ⊥) → Does (begin_acquisition p r) b (Err WrongStage) b

@@ -17,7 +17,7 @@ use Rattle.layout.specs.Layout.{modules, record_at, private_at, read, byte}
 use Rattle.layout.proofs.Rewritten.{private_read}
 use Rattle.image.specs.declared.Frame.{Frame}
 use Rattle.stage.specs.declared.Refusal.{Refusal}
-use Rattle.stage.specs.declared.Refusal.TheVariants.{MarkerOutOfRange}
+use Rattle.stage.specs.declared.Refusal.TheVariants.{WrongMarker}
 use Rattle.image.specs.Call.{Does}
 use Rattle.image.specs.Inside.{Framed, IsNumber, given, unfound, first_able}
 use Rattle.image.specs.Turn.{Turn, refused, found, turn_of, Gives, GivesTurn}
@@ -91,9 +91,9 @@ module _ (b : List ℕ) (f : Frame) (m : ℕ) (framed : Framed b f) where
   is_before e = ap (λ (o : Option ℕ). or_else o before) e ∙ sym next_is
 
 -- a turn, by what was found
-pub no_turn : (b : List ℕ) (m : ℕ) (k : Refusal) {r : Reply} → given (unfound b m MarkerOutOfRange) ≡ Some k → r ≡ Err k → GivesTurn b m r b m
+pub no_turn : (b : List ℕ) (m : ℕ) (k : Refusal) {r : Reply} → given (unfound b m WrongMarker) ≡ Some k → r ≡ Err k → GivesTurn b m r b m
 unfolding turn_of unfound read
-no_turn b m k {r} g e = subst⁻¹ (λ (t : Turn). Gives t b m r b m) (chosen refused (found (next_after (read b) m)) (unfound b m MarkerOutOfRange) (Some k) g) (e, refl, refl)
+no_turn b m k {r} g e = subst⁻¹ (λ (t : Turn). Gives t b m r b m) (chosen refused (found (next_after (read b) m)) (unfound b m WrongMarker) (Some k) g) (e, refl, refl)
 
 module _ (b : List ℕ) (last m : ℕ) (known : IsNumber b last × (last ≡ m)) where
   turn_is : (o : Option ℕ) → o ≡ next_after (read b) last → turn_of b m ≡ found o

@@ -5,7 +5,7 @@ use Rattle.stage.specs.Calls.{step, within, refusing}
 use Rattle.stage.specs.Turns.{next_after}
 use Rattle.stage.specs.declared.Event.TheVariants.{Nobody}
 use Rattle.stage.specs.declared.Refusal.{Refusal}
-use Rattle.stage.specs.declared.Refusal.TheVariants.{Unsound, MarkerOutOfRange}
+use Rattle.stage.specs.declared.Refusal.TheVariants.{Unsound, WrongMarker}
 use Rattle.layout.specs.Layout.{read}
 use Rattle.soundness.specs.SoundImage.{sound}
 use Rattle.image.specs.Call.{Does}
@@ -22,7 +22,7 @@ found (Some p) = step_by p
 
 -- "Refusals: 10, marker not 1 to n, after 1."
 unfoldable pub turn_of : List ℕ → ℕ → Turn
-turn_of b m = refusing ((not (sound b), Unsound) ∷ (not (within 1 (read b).n m), MarkerOutOfRange) ∷ []) refused (found (next_after (read b) m))
+turn_of b m = refusing ((not (sound b), Unsound) ∷ (not (within 1 (read b).n m), WrongMarker) ∷ []) refused (found (next_after (read b) m))
 
 -- the marker, where the step of p says r: it is "moved on", but "where it is refused 5, so is the turn"
 abbrev pub moved : ℕ → ℕ → Reply → ℕ

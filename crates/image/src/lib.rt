@@ -24,7 +24,7 @@ use link::Link;
 use stage::{Answer, Event, Private, Refusal, Reply, Shared, Stepped};
 
 // Where the parts of a sound image lie: its n, the places of record 1, of the log and of the trailer, and how many entries are held.
-#[derive(Clone, Copy, Debug, PartialEq, Eq)]
+#[derive(Clone, Copy)]
 struct Frame {
     n: u16,
     first: usize,
@@ -34,7 +34,7 @@ struct Frame {
 }
 
 // A module of a sound image: the place of its record, and its private part.
-#[derive(Clone, Copy, Debug, PartialEq, Eq)]
+#[derive(Clone, Copy)]
 struct Module {
     frame: Frame,
     number: u8,
@@ -43,7 +43,7 @@ struct Module {
 }
 
 // A step, before it is stored: the place of the record that it looks at, and what it leaves.
-#[derive(Clone, Copy, Debug, PartialEq, Eq)]
+#[derive(Clone, Copy)]
 struct Looked {
     at: usize,
     stepped: Stepped,
@@ -309,10 +309,10 @@ fn begin_acquisition_of(image: &mut [u8], m: Module, priority: u32) -> Reply
     ensures { Does (begin_acquisition m.number priority) image.old result image.new }
 {
     if priority < 1 {
-        return Err(Refusal::PriorityOutOfRange);
+        return Err(Refusal::WrongPriority);
     }
     if GREATEST < priority {
-        return Err(Refusal::PriorityOutOfRange);
+        return Err(Refusal::WrongPriority);
     }
     let stage = m.me.stage;
     if stage != 0 {
@@ -469,7 +469,7 @@ pub fn step(image: &mut [u8], p: u32) -> Reply
 pub fn turn(image: &mut [u8], marker: &mut u32) -> Reply
     ensures { GivesTurn image.old marker.old result image.new marker.new }
 {
-    let last = find(image, *marker, Refusal::MarkerOutOfRange)?;
+    let last = find(image, *marker, Refusal::WrongMarker)?;
     let Some(p) = next_after(image, last) else {
         return Ok(Answer::NOBODY);
     };

@@ -5,7 +5,7 @@ use Rattle.stage.specs.declared.Answer.{Answer}
 use Rattle.stage.specs.declared.Event.{Event}
 use Rattle.stage.specs.declared.Event.TheVariants.{Done, Waiting, Admitted, Joined, Left, Finished, Taken, Nobody}
 use Rattle.stage.specs.declared.Refusal.{Refusal}
-use Rattle.stage.specs.declared.Refusal.TheVariants.{Unsound, NoSuchModule, PriorityOutOfRange, WrongStage, LogFull, LogBufferTooShort, ModulesOutOfRange, BufferTooShort, Malformed, MarkerOutOfRange}
+use Rattle.stage.specs.declared.Refusal.TheVariants.{Unsound, NoSuchModule, WrongPriority, WrongStage, LogFull, ShortLogBuffer, WrongNumberOfModules, ShortBuffer, Malformed, WrongMarker}
 
 abbrev pub number_of : Event → ℕ
 number_of Done = 0
@@ -53,14 +53,14 @@ length_taken e = unwrap_or (log_length e) 0
 abbrev pub refusal_number : Refusal → ℕ
 refusal_number Unsound = 1
 refusal_number NoSuchModule = 2
-refusal_number PriorityOutOfRange = 3
+refusal_number WrongPriority = 3
 refusal_number WrongStage = 4
 refusal_number LogFull = 5
-refusal_number LogBufferTooShort = 6
-refusal_number ModulesOutOfRange = 7
-refusal_number BufferTooShort = 8
+refusal_number ShortLogBuffer = 6
+refusal_number WrongNumberOfModules = 7
+refusal_number ShortBuffer = 8
 refusal_number Malformed = 9
-refusal_number MarkerOutOfRange = 10
+refusal_number WrongMarker = 10
 
 -- what a call says: an answer, or why it is refused
 abbrev pub Reply : Type 0

@@ -6,7 +6,7 @@ use Rattle.stage.specs.declared.Answer.{Answer}
 use Rattle.stage.specs.declared.Event.{Event}
 use Rattle.stage.specs.declared.Event.TheVariants.{Done, Waiting, Admitted, Joined, Left, Finished, Taken, Nobody}
 use Rattle.stage.specs.declared.Refusal.{Refusal}
-use Rattle.stage.specs.declared.Refusal.TheVariants.{NoSuchModule, PriorityOutOfRange, WrongStage, LogFull, LogBufferTooShort, ModulesOutOfRange, BufferTooShort}
+use Rattle.stage.specs.declared.Refusal.TheVariants.{NoSuchModule, WrongPriority, WrongStage, LogFull, ShortLogBuffer, WrongNumberOfModules, ShortBuffer}
 
 -- A call with its numbers, whatever they are. `take_log room` is lent a buffer of `room` bytes for the log.
 pub data Call : Type 0 where
@@ -49,10 +49,10 @@ rests t p = eqb (t.private p).stage 0 || eqb (t.private p).stage 13
 -- What a call is refused for, in the order of the numbers: a test and the refusal that is given where it holds. `fits k` says whether the
 -- buffer has room for k modules. (The first, an unsound image, is the image's to give, and comes before these.)
 unfoldable pub refusals : (ℕ → ℕ) → (ℕ → Bool) → Call → Table → List (Bool × Refusal)
-refusals bump fits (set_up k) t = (not (within 1 64 k), ModulesOutOfRange) ∷ (not (fits k), BufferTooShort) ∷ []
+refusals bump fits (set_up k) t = (not (within 1 64 k), WrongNumberOfModules) ∷ (not (fits k), ShortBuffer) ∷ []
 refusals bump fits (begin_acquisition p r) t =
     (not (within 1 t.n p), NoSuchModule)
-    ∷ (not (within 1 254 r), PriorityOutOfRange)
+    ∷ (not (within 1 254 r), WrongPriority)
     ∷ (not (eqb (t.private p).stage 0), WrongStage)
     ∷ []
 refusals bump fits (begin_release p) t =
@@ -62,7 +62,7 @@ refusals bump fits (step p) t =
     ∷ (rests t p, WrongStage)
     ∷ (admits (step_of bump t p).answer.event && leb capacity (length t.log), LogFull)
     ∷ []
-refusals bump fits (take_log room) t = (ltb room (length t.log), LogBufferTooShort) ∷ []
+refusals bump fits (take_log room) t = (ltb room (length t.log), ShortLogBuffer) ∷ []
 
 -- "The lowest number that applies is given."
 unfoldable pub refusing : {A : Type 0} → List (Bool × Refusal) → (Refusal → A) → A → A

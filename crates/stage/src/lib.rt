@@ -59,21 +59,21 @@ pub enum Refusal {
     // The module number is 0 or above n.
     NoSuchModule = 2,
     // The priority is not 1 to 254.
-    PriorityOutOfRange = 3,
+    WrongPriority = 3,
     // The module is at a stage at which the call is not made.
     WrongStage = 4,
     // The step would admit, and the log holds 256.
     LogFull = 5,
     // The buffer for the log is shorter than the log length.
-    LogBufferTooShort = 6,
+    ShortLogBuffer = 6,
     // n is not 1 to 64.
-    ModulesOutOfRange = 7,
+    WrongNumberOfModules = 7,
     // The buffer for the image is too short.
-    BufferTooShort = 8,
+    ShortBuffer = 8,
     // A line of the program `turns` is malformed.
     Malformed = 9,
     // The turn marker is not 1 to n.
-    MarkerOutOfRange = 10,
+    WrongMarker = 10,
 }
 
 // What a call says: an answer, or why it is refused.

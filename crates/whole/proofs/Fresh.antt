@@ -21,7 +21,7 @@ use Rattle.image.specs.Call.{fits, refused, Does}
 use Rattle.image.specs.Inside.{given}
 use Rattle.whole.proofs.Copies.{then_behind}
 use Rattle.image.proofs.Refusals.{in_range, refuses, accepts}
-use Rattle.stage.specs.declared.Refusal.TheVariants.{Unsound, ModulesOutOfRange, BufferTooShort}
+use Rattle.stage.specs.declared.Refusal.TheVariants.{Unsound, WrongNumberOfModules, ShortBuffer}
 use Rattle.std.specs.Prelude.{Ok, Err}
 
 -- one record more
@@ -67,19 +67,19 @@ fresh_put b n room first log_is second rest_is third =
     ∙ append-nil (take at b ++ (records ++ log_of [] ++ trailer_of t))
 
 -- what set-up asks
-asks : (b : List ℕ) (n : ℕ) → refused (set_up n) b ≡ (false, Unsound) ∷ (not (within 1 64 n), ModulesOutOfRange) ∷ (not (fits b n), BufferTooShort) ∷ []
+asks : (b : List ℕ) (n : ℕ) → refused (set_up n) b ≡ (false, Unsound) ∷ (not (within 1 64 n), WrongNumberOfModules) ∷ (not (fits b n), ShortBuffer) ∷ []
 unfolding refused refusals
 asks b n = refl
 
 module _ (b : List ℕ) (n : ℕ) where
-  pub no_number : not (within 1 64 n) ≡ true → Does (set_up n) b (Err ModulesOutOfRange) b
+  pub no_number : not (within 1 64 n) ≡ true → Does (set_up n) b (Err WrongNumberOfModules) b
   unfolding given refusing
-  no_number outside = refuses (set_up n) b ModulesOutOfRange (ap given (asks b n) ∙ simp outside)
+  no_number outside = refuses (set_up n) b WrongNumberOfModules (ap given (asks b n) ∙ simp outside)
 
   module _ (least : 1 ≤ n) (most : n ≤ 64) where
-    pub no_room : length b < length_for n → Does (set_up n) b (Err BufferTooShort) b
+    pub no_room : length b < length_for n → Does (set_up n) b (Err ShortBuffer) b
     unfolding given refusing
-    no_room h = refuses (set_up n) b BufferTooShort (ap given (asks b n) ∙ simp (in_range 1 64 n least most, lt-leb (length_for n) (length b) h))
+    no_room h = refuses (set_up n) b ShortBuffer (ap given (asks b n) ∙ simp (in_range 1 64 n least most, lt-leb (length_for n) (length b) h))
 
     pub sets_up : {b' : List ℕ} → length_for n ≤ length b → b' ≡ put (fresh_table n) b → Does (set_up n) b (Ok (answer_of Done)) b'
     unfolding given refusing answered after

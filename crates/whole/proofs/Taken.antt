@@ -22,7 +22,7 @@ use Rattle.image.specs.Inside.{given}
 use Rattle.image.proofs.Refusals.{chosen, refuses, accepts}
 use Rattle.image.proofs.Sound.{written}
 use Rattle.stage.specs.declared.Refusal.{Refusal}
-use Rattle.stage.specs.declared.Refusal.TheVariants.{LogBufferTooShort, Unsound}
+use Rattle.stage.specs.declared.Refusal.TheVariants.{ShortLogBuffer, Unsound}
 use Rattle.std.specs.Prelude.{None, Some, Ok, Err}
 
 -- a sound image has a log and a trailer
@@ -45,7 +45,7 @@ module _ (b : List ℕ) (is : sound b ≡ true) (k : ℕ) (k_is : k ≡ held b) 
       ap₂ (λ (x : List ℕ) (j : ℕ). x ++ drop j lent) (first_is ∙ log) (sym entries)
 
 module _ (b lent : List ℕ) where
-  asks : refused (take_log (length lent)) b ≡ (not (sound b), Unsound) ∷ (ltb (length lent) (length (read b).log), LogBufferTooShort) ∷ []
+  asks : refused (take_log (length lent)) b ≡ (not (sound b), Unsound) ∷ (ltb (length lent) (length (read b).log), ShortLogBuffer) ∷ []
   unfolding refused refusals
   asks = refl
 
@@ -59,13 +59,13 @@ module _ (b lent : List ℕ) where
   untaken no_b = refused_both Unsound (ap given asks ∙ simp no_b)
 
   module _ (is : sound b ≡ true) (k : ℕ) (k_is : k ≡ held b) where
-    given_is : (t : Bool) → ltb (length lent) k ≡ t → given (refused (take_log (length lent)) b) ≡ given ((t, LogBufferTooShort) ∷ [])
+    given_is : (t : Bool) → ltb (length lent) k ≡ t → given (refused (take_log (length lent)) b) ≡ given ((t, ShortLogBuffer) ∷ [])
     unfolding given refusing
     given_is t e = ap given asks ∙ simp (is, entries b is k k_is, e)
 
-    pub short : length lent < k → Does (take_log (length lent)) b (Err LogBufferTooShort) b × (lent ≡ buffer b lent)
+    pub short : length lent < k → Does (take_log (length lent)) b (Err ShortLogBuffer) b × (lent ≡ buffer b lent)
     unfolding given refusing
-    short h = refused_both LogBufferTooShort (given_is true (lt-ltb _ _ h))
+    short h = refused_both ShortLogBuffer (given_is true (lt-ltb _ _ h))
 
     pub takes : {b' lent' : List ℕ} (a : Answer) → k ≤ length lent → a ≡ answer_of (Taken k) → b' ≡ put (log_taken (read b)) b → lent' ≡ (read b).log ++ drop (length (read b).log) lent →
         Does (take_log (length lent)) b (Ok a) b' × (lent' ≡ buffer b lent)

@@ -117,10 +117,10 @@ pub fn set_up(image: &mut [u8], n: u32) -> Reply
     ensures { Does (set_up n) image.old result image.new }
 {
     if !(1..=64).contains(&n) {
-        return Err(Refusal::ModulesOutOfRange);
+        return Err(Refusal::WrongNumberOfModules);
     }
     if image.len() < 16 * (n as usize) + 268 {
-        return Err(Refusal::BufferTooShort);
+        return Err(Refusal::ShortBuffer);
     }
     put_fresh(image, n as u16);
     Ok(Answer::DONE)
@@ -136,7 +136,7 @@ pub fn take_log(image: &mut [u8], log: &mut [u8]) -> Reply
     }
     let held = held_of(image);
     if log.len() < usize::from(held) {
-        return Err(Refusal::LogBufferTooShort);
+        return Err(Refusal::ShortLogBuffer);
     }
     hand_over(image, held, log);
     clear_log(image);
