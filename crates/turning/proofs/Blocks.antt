@@ -18,7 +18,7 @@ use Rattle.turning.proofs.Feeding.{fed_append}
 abbrev session : List ℕ → List ℕ → List ℕ → Session
 session b l t = record { image = b; line = l; text = t }
 
--- the first 17 bytes ask for what the line asks for
+-- more than 16 bytes ask for nothing, so the first 17 ask for what the line asks for
 same_kept : (f : List ℕ → Option Command) (l : List ℕ) → cond (ltb 16 (length (take 17 l))) None (f (take 17 l)) ≡ cond (ltb 16 (length l)) None (f l)
 same_kept f l = grind (arith, common_steps)
 

@@ -1,7 +1,7 @@
 -- What is written at the end of input. Assumes nothing.
-use mathlib.Core.Path.{◌≡◌, refl, sym, ap, ap₂, subst⁻¹}
+use mathlib.Core.Path.{◌≡◌, refl}
 use mathlib.Core.Bool.{true}
-use mathlib.Core.List.{List, [], ◌∷◌, ◌++◌}
+use mathlib.Core.List.{List, [], ◌∷◌}
 use Prim.Native.Nat.{ℕ, ◌+◌, ◌≤◌}
 use native.Mathlib.Nat.{suc-ne-zero}
 use native.Mathlib.Omega.{arith}
@@ -46,11 +46,11 @@ pub end_put : (b out : List ℕ) {k at at' at'' : ℕ} {out' out'' : List ℕ} �
     k ≡ lock_word b → at + 9 ≤ length out → Writes (lock_text k) out at at' out' → Put (log_text (held_log b)) out' at' at'' out'' → Put (end_text b) out at at'' out''
 unfolding end_text
 end_put b out {k} e h writes put =
-    put_then (writes_put (omega (arith, lock_short k)) writes) put (ap (λ (x : ℕ). lock_text x ++ log_text (held_log b)) (sym e))
+    put_then (writes_put (omega (arith, lock_short k)) writes) put (rw e refl)
 
 -- a buffer that a `Text` had holds what was left there
 pub put_left : {text out : List ℕ} {at r : ℕ} {out' out'' : List ℕ} → out'' ≡ out' → Put text out at r out' → Put text out at r out''
-put_left {text} {out} {at} {r} e p = subst⁻¹ (λ (l : List ℕ). Put text out at r l) e p
+put_left e p = rw e p
 
 -- no line has begun, so the end alone is written
 pub finish_none : (b line : List ℕ) {out out' : List ℕ} {r : ℕ} → length line ≡ 0 → Put (end_text b) out 0 r out' → Put (finished (standing b line out 0)) out 0 r out'
@@ -65,5 +65,4 @@ pub finish_line : (b line : List ℕ) {out out' out'' : List ℕ} {r : Reply} {b
 unfolding finished standing text_of last_line
 finish_line b [] begun turns h writes put = absurd (begun refl)
 finish_line b (x ∷ l) {r = r} begun turns h writes put =
-    put_then (writes_put (omega (arith, reply_short r)) writes) put
-    (ap₂ (λ (s : Reply) (k : List ℕ). reply_text s ++ end_text k) (sym turns.says) (sym turns.leaves))
+    put_then (writes_put (omega (arith, reply_short r)) writes) put (rw (turns.says, turns.leaves) refl)
