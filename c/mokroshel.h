@@ -53,11 +53,11 @@
  *   8  MOKROSHEL_SHORT_IMAGE   Set-up with a buffer shorter than 16n + 268. Lend a longer one.
  *  10  MOKROSHEL_BAD_MARKER    The turn marker is not 1 to n. Correct the caller.
  *
- * The calls allocate nothing and keep nothing outside what they are lent: of the C library the archive asks for memcpy and memset alone.
+ * The calls allocate nothing and keep nothing outside what they are lent: of the C library the archive asks for memcpy alone.
  *
  * Stack. Whatever it is given, a call of the archive for x86-64 takes at most so many bytes, its return address included: a step or a begun
- * release 272, a turn or a begun acquisition 288, set-up 56, taking the log 560; set-up and taking the log beside what the C library's memset
- * and memcpy take. The gate fails if one could take more (rust/stack.txt, which has AArch64 too).
+ * release 152, a begun acquisition 168, a turn 184, set-up 16, taking the log 440; taking the log beside what the C library's memcpy takes.
+ * The gate fails if one could take more (rust/stack.txt, which has AArch64 too).
  *
  * What a caller owes, since no proof can see it: a pointer is not null, also where its length is 0, and is valid for reading and writing as many
  * bytes as its length says; the pointer to a marker is valid for reading and writing one; the image, the log buffer and the marker do not overlap;

@@ -24,7 +24,7 @@ use Rattle.claims.proofs.Images.{Shows, known, outside, fits_read, put_shows, sa
 use Rattle.claims.specs.Claims.{images}
 use Rattle.stage.specs.Answers.{Reply}
 use Rattle.stage.specs.declared.Refusal.TheVariants.{Unsound}
-use Rattle.std.specs.Prelude.{Ok, Err}
+use Rattle.std.specs.Prelude.{Err}
 
 -- a module at stage 19 is one of the table
 module _ (t : Table) (sound_t : Soundly t) (held : Held t) (p : ℕ) (at_19 : (t.private p).stage ≡ 19) where

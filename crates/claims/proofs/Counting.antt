@@ -16,7 +16,7 @@ use Rattle.line.specs.Corollaries.{step_in, steps_now}
 use Rattle.claims.proofs.Turns.{Serves, serves_closer}
 use Rattle.claims.specs.Turns.{Past}
 use Rattle.stage.specs.Answers.{Reply}
-use Rattle.std.specs.Prelude.{Ok, Err}
+use Rattle.std.specs.Prelude.{Ok}
 
 -- one call, c, which said r on the image b: by itself, or as an accepted turn
 pub record Turned (b : List ℕ) (c : Call) (r : Reply) (x x' : Past) (z : ℕ) : Type 0 where

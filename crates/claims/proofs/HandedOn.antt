@@ -36,7 +36,7 @@ use Rattle.claims.proofs.Promises.{start_shows}
 use Rattle.claims.proofs.Turns.{able_known, calls_stay, after_turn}
 use Rattle.claims.specs.Claims.{images}
 use Rattle.claims.specs.Turns.{Move, call, turn, Past, past, Admits, GoOn, HandedOn}
-use Rattle.std.specs.Prelude.{Ok, Err}
+use Rattle.std.specs.Prelude.{Ok}
 
 -- who is about to leave, leaving or waiting can step
 busy_able : (k : ℕ) → T (among k busy) → (eqb k 0 || eqb k 13) ≡ false

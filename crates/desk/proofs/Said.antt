@@ -2,14 +2,11 @@
 -- Assumes nothing.
 use mathlib.Core.Path.{◌≡◌, sym, ap, ◌∙◌}
 use mathlib.Core.List.{List}
-use Prim.Native.Nat.{ℕ, ◌+◌, ◌*◌}
-use Rattle.stage.specs.Answers.{refusal_number, module_admitted, length_taken, Reply}
+use Prim.Native.Nat.{ℕ}
+use Rattle.stage.specs.Answers.{Reply}
 use Rattle.stage.specs.Calls.{Call}
-use Rattle.stage.specs.declared.Answer.{Answer}
-use Rattle.stage.specs.declared.Refusal.{Refusal}
 use Rattle.image.specs.Call.{Does}
-use Rattle.desk.specs.Packed.{top, packed, Exports}
-use Rattle.std.specs.Prelude.{Ok, Err}
+use Rattle.desk.specs.Packed.{packed, Exports}
 
 pub said : (c : Call) (b : List ℕ) (r : Reply) (b' : List ℕ) (x : ℕ) → Does c b r b' → x ≡ packed r → Exports c b x b'
 said c b r b' x does same = record { says = same ∙ ap packed does.says; leaves = does.leaves }

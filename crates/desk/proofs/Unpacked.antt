@@ -4,9 +4,9 @@ use mathlib.Core.Path.{◌≡◌, refl, sym, ◌∙◌, ap₂, subst⁻¹}
 use mathlib.Core.Bool.{Bool, true, false}
 use mathlib.Core.List.{List}
 use Prim.Native.Nat.{ℕ, ◌+◌, ◌*◌, ◌/◌, ◌%◌, ◌≤◌}
-use native.Mathlib.Nat.{add-sub_cancel_left, div-eq_of_lt-le, mod-add-div, mod-eq_of_lt}
+use native.Mathlib.Nat.{div-eq_of_lt-le, mod-add-div, mod-eq_of_lt}
 use native.Mathlib.Omega.{arith}
-use borrow.Author.Tests.{le-leb, lt-leb, not-false}
+use borrow.Author.Tests.{lt-leb, not-false}
 use lib.Dec.{leb}
 use lib.ListN.{length}
 use Rattle.link.specs.Count.{next, size}

@@ -24,7 +24,7 @@ use Rattle.line.proofs.Places.{Sorted}
 use Rattle.line.proofs.Remembering.{Released, Away, no_release, Latest, Remembered, step_remembers}
 use Rattle.line.proofs.WrapCalls.{wrap}
 use Rattle.stage.specs.Answers.{Reply}
-use Rattle.std.specs.Prelude.{Ok, Err}
+use Rattle.std.specs.Prelude.{Ok}
 
 -- a call that is no step, and takes a module to a stage that is no release's
 begins : (h : Transcript) (private : ℕ → Private) → Remembered h private → (p : ℕ) (me' : Private) → Away me'.stage

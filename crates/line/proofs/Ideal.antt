@@ -25,7 +25,7 @@ use Rattle.line.proofs.Invariant.{Inv}
 use Rattle.line.proofs.Logs.{Logs, pending, insides, quiet, step_logs}
 use Rattle.line.proofs.Steps.{step_keeps}
 use Rattle.stage.specs.Answers.{Reply}
-use Rattle.std.specs.Prelude.{Ok, Err}
+use Rattle.std.specs.Prelude.{Ok}
 
 -- the invariant, of a course, what was taken of the log, and a table
 pub record Kept (o : Course) (taken : List ℕ) (t : Table) : Type 0 where

@@ -17,7 +17,7 @@ use Rattle.line.specs.History.{Desk, Ongoing, course, state, table, transcript}
 use Rattle.line.specs.PlainLine.{Place}
 use Rattle.line.proofs.Invariant.{leavers, waiters}
 use Rattle.line.proofs.Places.{head}
-use Rattle.std.specs.Prelude.{Ok, Err}
+use Rattle.std.specs.Prelude.{Ok}
 
 -- the stages of those that it needs: about to leave, waiting, leaving
 abbrev pub busy : List ℕ

@@ -28,7 +28,7 @@ use Rattle.line.proofs.Places.{In, head}
 use Rattle.line.proofs.Release.{Begun, Leaves, Freed, Goes}
 use Rattle.line.proofs.ReleaseRows.{among_each, Grows, Mild, mild}
 use Rattle.line.proofs.Steps.{step_keeps}
-use Rattle.std.specs.Prelude.{Ok, Err}
+use Rattle.std.specs.Prelude.{Ok}
 
 -- of a line of two or more, somebody is left
 some_left : (l : List Place) → 2 ≤ length l → leave l ≢ []

@@ -30,7 +30,7 @@ use Rattle.line.proofs.Facts.{stands_at, seeks_at, holder_at, empty, free}
 use Rattle.line.proofs.Invariant.{Inv, outs, holders, leavers}
 use Rattle.line.proofs.Joiners.{Stood, join_stood, leave_stood}
 use Rattle.line.proofs.Places.{In, Sorted, behind}
-use Rattle.std.specs.Prelude.{Ok, Err}
+use Rattle.std.specs.Prelude.{Ok}
 
 -- of a module q: where it is a release after its leave, how many steps it has taken, and whether it has a successor
 abbrev pub Released : List Place → (ℕ → ℕ) → (ℕ → Bool) → ℕ → Private → Type 0

@@ -20,7 +20,7 @@ use Rattle.line.proofs.Facts.{seeks_at}
 use Rattle.line.proofs.Invariant.{Seeks, Inv, outs}
 use Rattle.line.proofs.Kept.{own_calm}
 use Rattle.line.proofs.Seeking.{not_in, seek, look}
-use Rattle.std.specs.Prelude.{Ok, Err}
+use Rattle.std.specs.Prelude.{Err}
 
 module _ (o : Course) {private : ℕ → Private} {sh : ℕ → Shared} {lock : ℕ} {h : ℕ} (i : Inv o.given private sh lock o.line h) (p : ℕ) (some : p ≢ 0) where
   -- the stage is k, one of those away from the line

@@ -1,5 +1,5 @@
 -- Desks of before R-1 (document 02) and of today, at work on the same table or image.
-use Rattle.std.specs.Prelude.{ℕ, suc, Bool, cond, not, ◌&&◌, ◌||◌, eqb, leb, Ok, Err}
+use Rattle.std.specs.Prelude.{ℕ, suc, Bool, cond, not, ◌&&◌, ◌||◌, eqb, leb, Err}
 use Rattle.stage.specs.Calls.{Call, set_up, begin_acquisition, begin_release, step, take_log, asks_sound}
 use Rattle.stage.specs.Rows.{goes}
 use Rattle.stage.specs.Sound.{every}

@@ -7,7 +7,7 @@
 //! The calls are written and proved in Rattle; this package is their interface for Rust, with no
 //! `std` and no dependency. A call takes any buffer and any number. It is refused by a [`Refusal`]
 //! and changes no byte, or it answers by an [`Answer`]. It allocates nothing; how much stack it can
-//! take is in `rust/stack.txt`: on x86-64 272 bytes for a step.
+//! take is in `rust/stack.txt`: on x86-64 152 bytes for a step.
 //!
 //! A module takes the lock by [beginning an acquisition](Image::begin_acquisition) and
 //! [steps](Image::step) until one answers [`Answer::Admitted`]. It gives the lock back by
