@@ -18,7 +18,7 @@ pub struct Marker {
     pub last: u32,
 }
 
-// What a call says, as one number.
+// What a call says, as one number. (`From` cannot be had: neither `Result` nor `u32` is this crate's.)
 #[tactic(auto, unfolding(crate::specs::Packed::packed))]
 fn packed(reply: Reply) -> u32
     ensures { result ≡ Packed.packed reply }

@@ -102,7 +102,7 @@ fn link_in(at: usize, part: Place) -> Place
     }
 }
 
-// The link at a place.
+// The link at a place. (`inplace` reads and puts links of its own: a function for both would be public, and no public function requires anything.)
 #[tactic(auto, unfolding(inplace::specs::InPlace::lies, inplace::specs::InPlace::link_at, layout::specs::Layout::two))]
 fn link_at(image: &[u8], l: Place) -> Link
     requires { lies l (length image.now) ≡ true }

@@ -98,7 +98,7 @@ fn left_by(entries: &[u8], bytes: usize) -> Option<usize>
     Some(left)
 }
 
-// A text in a buffer, with the place after it, where the next is put. What writes says that the buffer is the same one as before: so whoever lent it
+// A text in a buffer, with the place after it, where the next is put. The buffer is lent and its length fixed: no heap. What writes says that the buffer is the same one as before: so whoever lent it
 // knows what it holds in the end.
 #[derive(Drop)]
 pub struct Text<'a> {

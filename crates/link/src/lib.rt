@@ -9,7 +9,8 @@ ghost use Rattle.link.specs.Count.{next, size};
 ghost use Rattle.link.specs.Operations as Operations;
 ghost use Rattle.link.specs.Operations.{pointed, opened, closed, swapped};
 
-// The two marks, as the image has them.
+// The two marks, as the image has them. A mark is a number, since the four operations and what a link is compared with hold of any byte, and R-4
+// makes it the number of a lock.
 pub const OPEN: u8 = 0;
 
 pub const CLOSED: u8 = 1;

@@ -107,7 +107,8 @@ fn greatest(n: u8) -> [[u8; 16]; 5]
     [greatest_row(0, n), busy, busy, busy, busy]
 }
 
-// How far off the bytes of all records are, with one more record. Nowhere, if so before and each of its bytes lies between its two.
+// How far off the bytes of all records are, with one more record. Nowhere, if so before and each of its bytes lies between its two. (Four slices
+// side by side by `zip` have no proof yet.)
 #[tactic(auto, unfolding(crate::specs::Parts::below))]
 fn farther(mut off: [u8; 16], bytes: &[u8; 16], least: &[u8; 16], greatest: &[u8; 16]) -> [u8; 16]
     ensures lanes { list_all (within 0 0) result ≡ (list_all (within 0 0) off && lanes_right bytes.now least.now greatest.now) }

@@ -10,7 +10,7 @@ ghost use Rattle.stage.specs.Rows.{goes, with_own, with_priority};
 
 use link::Link;
 
-// Stages are numbered from 0 to this.
+// Stages are numbered from 0 to this. 01 has the step match on the number, and the table says of every number what is done there.
 pub const LAST: u8 = 19;
 
 // What only the module itself writes.
@@ -23,7 +23,7 @@ pub struct Private {
     pub s: u8,
 }
 
-// What other modules may touch.
+// What other modules may touch. Locked is a byte: the table asks whether it is 0, of any.
 #[derive(Clone, Copy, Debug, PartialEq, Eq)]
 pub struct Shared {
     pub link: Link,
@@ -44,7 +44,7 @@ pub enum Event {
     Nobody,
 }
 
-// An accepted call's answer: 01's number for what happened, and what happened.
+// An accepted call's answer: 01's number for what happened, and what happened. 01 asks for this struct.
 #[derive(Clone, Copy, Debug, PartialEq, Eq)]
 pub struct Answer {
     pub number: u8,

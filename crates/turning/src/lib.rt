@@ -16,7 +16,7 @@ use stage::{Refusal, Reply};
 use std::io::{Read, Write};
 use std::marker::Model;
 
-// The bytes that are kept of the line that has begun.
+// The bytes that are kept of the line that has begun, in fixed memory.
 #[derive(Drop)]
 struct Kept {
     bytes: [u8; 17],

@@ -86,7 +86,7 @@ fn fresh_trailer(n: u16) -> [u8; 12]
     trailer
 }
 
-// Writes n fresh records from a place on.
+// Writes n fresh records from a place on. After a loop over `chunks_exact_mut` nothing would be known of the bytes, so the records are counted.
 fn put_records(image: &mut [u8], first: usize, n: usize)
     requires { first + 16 * n ≤ length image.old }
     ensures { image.new ≡ paste image.old first (records_of n (fresh_table n)) (16 * n) }
