@@ -6,6 +6,7 @@ use mathlib.Core.List.{List, [], ◌∷◌, ◌++◌}
 use Prim.Native.Nat.{ℕ, ◌≤◌, ◌<◌}
 use borrow.Author.Tests.{le-leb, lt-leb}
 use lib.Dec.{leb}
+use Rattle.std.proofs.Common.{◌⊎◌, inl, inr}
 use Rattle.laws.proofs.Said.{no_right}
 use Rattle.link.specs.Count.{next, size}
 use Rattle.stage.specs.Calls.{Call, within, refusing, answered, after}
@@ -48,11 +49,14 @@ module _ (c : Call) (b : List ℕ) where
 
 -- a number outside a range, and inside it
 module _ (a b x : ℕ) where
-  pub too_low : x < a → not (within a b x) ≡ true
+  too_low : x < a → not (within a b x) ≡ true
   too_low h = simp (lt-leb a x h)
 
-  pub too_high : b < x → not (within a b x) ≡ true
+  too_high : b < x → not (within a b x) ≡ true
   too_high h = ap not (no_right (leb a x) (leb x b) (lt-leb x b h))
+
+  pub outside : (x < a) ⊎ (b < x) → not (within a b x) ≡ true
+  outside o = elim o [ inl low ↦ too_low low | inr high ↦ too_high high ]
 
   pub in_range : a ≤ x → x ≤ b → not (within a b x) ≡ false
   in_range low high = simp (le-leb a x low, le-leb x b high)

@@ -205,7 +205,7 @@ fn place(first: usize, p: u8) -> usize
 }
 
 // The module that is named, or the refusal of an unsound image, or `unknown` for a number that is no module's.
-#[tactic(auto, using(crate::proofs::Refusals::unsound, crate::proofs::Refusals::no_module, crate::proofs::Refusals::too_low, crate::proofs::Refusals::too_high, laws::proofs::Said::said))]
+#[tactic(auto, using(crate::proofs::Refusals::unsound, laws::proofs::Said::said))]
 fn find(image: &[u8], p: u32, unknown: Refusal) -> Result<u8, Refusal>
     ensures { Finds image.now p unknown result }
 {
@@ -213,10 +213,7 @@ fn find(image: &[u8], p: u32, unknown: Refusal) -> Result<u8, Refusal>
         return Err(Refusal::Unsound);
     }
     let n = frame_of(image).n;
-    if p < 1 {
-        return Err(unknown);
-    }
-    if u32::from(n) < p {
+    if !(1..=u32::from(n)).contains(&p) {
         return Err(unknown);
     }
     Ok(p as u8)
@@ -261,10 +258,7 @@ fn look(image: &[u8], m: Module) -> Looked
 fn overfills(event: Event, held: u16) -> bool
     ensures { result ≡ (admits event && leb capacity held) }
 {
-    match event {
-        Event::Admitted(_) => 256 <= held,
-        _ => false,
-    }
+    event.admission().is_some() && 256 <= held
 }
 
 // Logs the admission of module p.
@@ -297,9 +291,8 @@ fn store(image: &mut [u8], m: Module, l: Looked)
     ensures { image.new ≡ put (after_step (next size) (read image.old) m.number) image.old }
 {
     put_parts(image, m, l);
-    match l.stepped.answer.event {
-        Event::Admitted(p) => admit(image, m.frame, p),
-        _ => {}
+    if let Some(p) = l.stepped.answer.event.admission() {
+        admit(image, m.frame, p);
     }
 }
 
@@ -308,10 +301,7 @@ fn begin_acquisition_of(image: &mut [u8], m: Module, priority: u32) -> Reply
     requires { IsModule image.old m }
     ensures { Does (begin_acquisition m.number priority) image.old result image.new }
 {
-    if priority < 1 {
-        return Err(Refusal::WrongPriority);
-    }
-    if GREATEST < priority {
+    if !(1..=GREATEST).contains(&priority) {
         return Err(Refusal::WrongPriority);
     }
     let stage = m.me.stage;

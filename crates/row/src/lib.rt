@@ -16,15 +16,10 @@ use stage::{Answer, Private, Shared, Stepped};
 pub fn looks_at(me: Private, p: u8) -> u8
     ensures { result ≡ looks_at p me }
 {
-    let stage = me.stage;
-    match stage {
-        5 => me.prev,
-        6 => me.prev,
+    match me.stage {
+        5 | 6 | 9 | 10 => me.prev,
         7 => me.w.pointer,
-        9 => me.prev,
-        10 => me.prev,
-        17 => me.s,
-        18 => me.s,
+        17 | 18 => me.s,
         _ => p,
     }
 }

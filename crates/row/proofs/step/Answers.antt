@@ -1,10 +1,8 @@
 -- `step` is the row of its stage, way by way in the order of the table; a number that is no stage is past the table.
 -- Assumes nothing.
 use mathlib.Core.Path.{refl, ◌∙◌, sym}
-use borrow.Author.Rules.{rules}
 use Rattle.stage.specs.Rows.{find, rows}
 use Rattle.row.proofs.AfterSwap.{by_swap}
-use Rattle.row.proofs.AtStage.{past_the_table}
 use Rattle.row.proofs.step.Goals as goal
 
 pub returns-in-Ok : goal.returns-in-Ok
@@ -16,7 +14,3 @@ pub returns-in-Err : goal.returns-in-Err
 unfolding find rows
 returns-in-Err c = let start = c.args in
     sym (c.after_swap-after-in-Err.ensures start.me start.its _ _ refl) ∙ by_swap _ _ _ _ _ c.in-9.is _ (sym c.swap.ensures ∙ c.in-Err.is)
-
-pub returns-in_default : goal.returns-in_default
-unfolding find rows
-returns-in_default c = past_the_table _ _ _ _ _ (search rules)

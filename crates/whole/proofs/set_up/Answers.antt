@@ -1,14 +1,14 @@
 -- `set_up` refuses a number, then a short buffer; past both it writes a fresh image.
 -- Assumes nothing.
-use Rattle.std.proofs.Common.{◌≤◌, ◌<◌, ◌⊎◌, inl, inr, rules, arith}
+use Rattle.std.proofs.Common.{◌≤◌, ◌<◌, ◌⊎◌, rules, arith}
 use Rattle.whole.proofs.Fresh.{no_number, no_room, sets_up}
-use Rattle.image.proofs.Refusals.{too_low, too_high}
+use Rattle.image.proofs.Refusals.{outside}
 use Rattle.whole.proofs.set_up.Goals as goal
 
 pub returns-then-not-contains : goal.returns-then-not-contains
 returns-then-not-contains c =
-    let outside : (c.args.n < 1) ⊎ (64 < c.args.n) = search rules in
-    no_number _ _ (elim outside [ inl low ↦ too_low _ _ _ low | inr high ↦ too_high _ _ _ high ])
+    let o : (c.args.n < 1) ⊎ (64 < c.args.n) = search rules in
+    no_number _ _ (outside _ _ _ o)
 
 pub returns-then-image-n : goal.returns-then-image-n
 returns-then-image-n c =

@@ -13,9 +13,6 @@ pub returns-then-not-sound-clause-log_after : goal.returns-then-not-sound-clause
 returns-then-not-sound-clause-log_after c =
     (untaken c.args.image.now c.args.log.now (search said)).1
 
-pub held_of-held-requires : goal.held_of-held-requires
-held_of-held-requires c = search said
-
 pub returns-then-log-from-clause-does : goal.returns-then-log-from-clause-does
 returns-then-log-from-clause-does c =
     (short c.args.image.now c.args.log.now (search said) _ c.held_of-held.ensures (omega (arith, c.from.ensures, c.if-log-from.true))).0
@@ -23,14 +20,6 @@ returns-then-log-from-clause-does c =
 pub returns-then-log-from-clause-log_after : goal.returns-then-log-from-clause-log_after
 returns-then-log-from-clause-log_after c =
     (short c.args.image.now c.args.log.now (search said) _ c.held_of-held.ensures (omega (arith, c.from.ensures, c.if-log-from.true))).1
-
-pub hand_over-requires : goal.hand_over-requires
-hand_over-requires c =
-    (search said, c.held_of-held.ensures, omega (arith, c.from.ensures, c.if-log-from.false))
-
-pub clear_log-requires : goal.clear_log-requires
-clear_log-requires c =
-    search said
 
 pub returns-clause-does : goal.returns-clause-does
 returns-clause-does c =
