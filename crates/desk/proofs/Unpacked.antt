@@ -1,6 +1,6 @@
 -- What a caller reads out of an exported call's number is what the call says: the packing loses nothing.
 -- Assumes nothing.
-use mathlib.Core.Path.{◌≡◌, refl, sym, ◌∙◌, ap₂, subst⁻¹}
+use mathlib.Core.Path.{◌≡◌, refl, sym, ◌∙◌, ap, ap₂, subst⁻¹}
 use mathlib.Core.Bool.{Bool, true, false}
 use mathlib.Core.List.{List}
 use Prim.Native.Nat.{ℕ, ◌+◌, ◌*◌, ◌/◌, ◌%◌, ◌≤◌}
@@ -27,11 +27,11 @@ use Rattle.image.specs.Turn as T
 use Rattle.image.specs.Turn.{Turn, nobody, step_by, turn_of, Gives}
 use Rattle.image.proofs.Sound.{table}
 use Rattle.desk.specs.Packed.{top, packed, takes, event_of, refusal_of, unpacked, LosesNothing, TurnsToo}
-use Rattle.std.specs.Prelude.{Ok, Err}
+use Rattle.std.specs.Prelude.{Ok, Err, Option, Some, unwrap_or}
 
 -- what is said comes back
 abbrev Back : Bool → Reply → Type 0
-Back log r = unpacked log (packed r) ≡ r
+Back log r = unpacked log (packed r) ≡ Some r
 
 refusal : (log : Bool) (k : Refusal) → Back log (Err k)
 unfolding packed unpacked refusal_of
@@ -108,4 +108,5 @@ turns_too b m r b' m' = by_turn (turn_of b m)
 
 -- so two calls that a caller cannot tell apart by the number said the same
 pub same_said : (c c' : Call) (b b' : List ℕ) → takes c ≡ takes c' → packed (reply c b) ≡ packed (reply c' b') → reply c b ≡ reply c' b'
-same_said c c' b b' kind same = sym (loses_nothing c b) ∙ ap₂ unpacked kind same ∙ loses_nothing c' b'
+same_said c c' b b' kind same =
+    ap (λ (o : Option Reply). unwrap_or o (reply c b)) (sym (loses_nothing c b) ∙ ap₂ unpacked kind same ∙ loses_nothing c' b')

@@ -1,6 +1,6 @@
 -- What a call says, as one number for other languages. Document 01, "What a call says": "The answer carries what happened and, for an admission,
 -- which module", "Taking the log answers 0 and its length", and a refusal "returns that number alone".
-use Rattle.std.specs.Prelude.{ℕ, ◌+◌, ◌-◌, ◌*◌, ◌/◌, ◌%◌, ◌≡◌, Bool, true, false, cond, List, eqb, leb, Ok, Err}
+use Rattle.std.specs.Prelude.{ℕ, ◌+◌, ◌-◌, ◌*◌, ◌/◌, ◌%◌, ◌≡◌, Bool, true, false, cond, List, eqb, leb, Ok, Err, Option, Some, None, option_map}
 use Rattle.stage.specs.Answers.{module_admitted, length_taken, refusal_number, Reply}
 use Rattle.stage.specs.Calls.{Call, set_up, begin_acquisition, begin_release, step, take_log}
 use Rattle.stage.specs.declared.Event.{Event}
@@ -55,32 +55,33 @@ event_of false number p k =
     (cond (eqb number 5) Finished
     Nobody)))))
 
--- the refusal of a number; no call gives another than these
-unfoldable pub refusal_of : ℕ → Refusal
+-- the refusal of a number, if it is a refusal's
+unfoldable pub refusal_of : ℕ → Option Refusal
 refusal_of k =
-    cond (eqb k 1) Unsound
-    (cond (eqb k 2) NoSuchModule
-    (cond (eqb k 3) WrongPriority
-    (cond (eqb k 4) WrongStage
-    (cond (eqb k 5) LogFull
-    (cond (eqb k 6) ShortLogBuffer
-    (cond (eqb k 7) WrongNumberOfModules
-    (cond (eqb k 8) ShortBuffer
-    (cond (eqb k 9) Malformed
-    WrongMarker))))))))
+    cond (eqb k 1) (Some Unsound)
+    (cond (eqb k 2) (Some NoSuchModule)
+    (cond (eqb k 3) (Some WrongPriority)
+    (cond (eqb k 4) (Some WrongStage)
+    (cond (eqb k 5) (Some LogFull)
+    (cond (eqb k 6) (Some ShortLogBuffer)
+    (cond (eqb k 7) (Some WrongNumberOfModules)
+    (cond (eqb k 8) (Some ShortBuffer)
+    (cond (eqb k 9) (Some Malformed)
+    (cond (eqb k 10) (Some WrongMarker)
+    None)))))))))
 
--- what a caller reads out of the number
-unfoldable pub unpacked : Bool → ℕ → Reply
+-- what a caller reads out of the number: nothing where it is that of no refusal
+unfoldable pub unpacked : Bool → ℕ → Option Reply
 unpacked log x =
     cond (leb top x)
-    (Err (refusal_of (x - top)))
-    (Ok (record { number = x % 256; event = event_of log (x % 256) (x / 256 % 256) (x / 65536) }))
+    (option_map Err (refusal_of (x - top)))
+    (Some (Ok (record { number = x % 256; event = event_of log (x % 256) (x / 256 % 256) (x / 65536) })))
 
 -- What is proved of it: the packing loses nothing of what a call says on any image.
 abbrev pub LosesNothing : Type 0
-LosesNothing = (c : Call) (b : List ℕ) → unpacked (takes c) (packed (reply c b)) ≡ reply c b
+LosesNothing = (c : Call) (b : List ℕ) → unpacked (takes c) (packed (reply c b)) ≡ Some (reply c b)
 
 -- nor of what a turn says
 abbrev pub TurnsToo : Type 0
 TurnsToo =
-    (b : List ℕ) (m : ℕ) (r : Reply) (b' : List ℕ) (m' : ℕ) → GivesTurn b m r b' m' → unpacked false (packed r) ≡ r
+    (b : List ℕ) (m : ℕ) (r : Reply) (b' : List ℕ) (m' : ℕ) → GivesTurn b m r b' m' → unpacked false (packed r) ≡ Some r

@@ -14,7 +14,7 @@ ghost use Rattle.inplace.specs.InPlace.{link_at, link_put, swapped_in};
 use link::Link;
 
 // Where a link lies in bytes: its pointer, with its mark behind it, and its count, the greater of two bytes first.
-#[derive(Clone, Copy)]
+#[derive(Clone, Copy, Debug, PartialEq, Eq)]
 pub struct Place {
     pub pointer: usize,
     pub count: usize,
