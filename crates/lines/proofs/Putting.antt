@@ -21,7 +21,7 @@ module _ {text out : List ℕ} {at r : ℕ} {out' : List ℕ} (p : Put text out 
   rest = grind (arith, common_steps, p)
 
   -- with more put after it
-  pub put_then : {more all out'' : List ℕ} {r'' : ℕ} → Put more out' r r'' out'' → all ≡ text ++ more → Put all out at r'' out''
+  put_then : {more all out'' : List ℕ} {r'' : ℕ} → Put more out' r r'' out'' → all ≡ text ++ more → Put all out at r'' out''
   put_then {more} {all} {out''} {r''} q all_is =
       let e : drop r'' out' ≡ drop r'' out = rw (q.after, ← drop-drop (length more) r out', rest) (drop-drop (length more) r out) in
       record {

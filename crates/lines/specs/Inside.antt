@@ -3,6 +3,7 @@
 use Rattle.std.specs.Prelude.{ℕ, ◌+◌, ◌≤◌, ◌≡◌, List, ◌++◌, length, take, drop}
 use Rattle.std.specs.Borrow.{Bor}
 use Rattle.lines.specs.declared.Text.{Text}
+use Rattle.lines.specs.Text.{SameBuffer}
 
 -- the text had room from the place `at` on and was put there; r is the place after it
 pub record Put (text out : List ℕ) (at r : ℕ) (out' : List ℕ) : Type 0 where
@@ -15,10 +16,10 @@ pub record Put (text out : List ℕ) (at r : ℕ) (out' : List ℕ) : Type 0 whe
 abbrev pub HasRoom : Text → ℕ → Type 0
 HasRoom text n = text.at + n ≤ length text.buffer.now
 
--- the bytes were put, and the reference is still to the same buffer
+-- the bytes were put, in the same buffer
 pub record Puts (bytes : List ℕ) (old new : Text) : Type 0 where
   pub text : Put bytes old.buffer.now old.at new.at new.buffer.now
-  pub same_buffer : new.buffer.ghost_name ≡ old.buffer.ghost_name
+  pub same_buffer : SameBuffer old new
 
 -- what was read, with the line behind the reference
 abbrev pub number_and_rest : ℕ × Bor (List ℕ) → ℕ × List ℕ

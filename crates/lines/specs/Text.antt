@@ -52,7 +52,11 @@ pub record Writes (text out : List ℕ) (at r : ℕ) (out' : List ℕ) : Type 0 
   pub answers : r ≡ place_after text out at
   pub leaves : out' ≡ written text out at
 
--- what every contract of a function that writes says: the bytes were written where they had room, and the reference is still to the same buffer
+-- the reference is still to the same buffer
+abbrev pub SameBuffer : Text → Text → Type 0
+SameBuffer old new = new.buffer.ghost_name ≡ old.buffer.ghost_name
+
+-- what every contract of a function that writes says: the bytes were written where they had room, in the same buffer
 pub record WritesTo (bytes : List ℕ) (old new : Text) : Type 0 where
   pub text : Writes bytes old.buffer.now old.at new.at new.buffer.now
-  pub same_buffer : new.buffer.ghost_name ≡ old.buffer.ghost_name
+  pub same_buffer : SameBuffer old new

@@ -6,7 +6,7 @@
 
 ghost use Rattle.std.specs.Prelude.{◌≡◌, ◌+◌, ◌*◌, ◌≤◌, ℕ, List, [], length, take};
 ghost use Rattle.lines.specs.Inside.{Put, HasRoom, Puts};
-ghost use Rattle.lines.specs.Text.{log_text};
+ghost use Rattle.lines.specs.Text.{log_text, SameBuffer};
 ghost use Rattle.turning.specs.Inside.{fed, fed_all, finished, grown, standing, taken_of};
 ghost use Rattle.turning.specs.Program.{held_log, end_text};
 ghost use Rattle.turning.specs.Turn.{Turns};
@@ -88,7 +88,7 @@ fn feed(image: &mut [u8], kept: &mut Kept, x: u8, text: &mut Text)
     ensures session { standing image.new kept.new text.new.buffer.now text.new.at ≡ fed (standing image.old kept.old text.old.buffer.now text.old.at) x }
     ensures at_bound { text.new.at ≤ text.old.at + 6 }
     ensures same_length { length text.new.buffer.now ≡ length text.old.buffer.now }
-    ensures same_buffer { text.new.buffer.ghost_name ≡ text.old.buffer.ghost_name }
+    ensures same_buffer { SameBuffer text.old text.new }
 {
     if x == b'\n' {
         text.put_reply(turn(image, kept.line()));
