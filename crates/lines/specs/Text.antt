@@ -3,6 +3,7 @@
 use Rattle.std.specs.Prelude.{ℕ, ◌+◌, ◌/◌, ◌%◌, ◌≡◌, Bool, cond, List, [], ◌∷◌, ◌++◌, leb, ltb, length, take, drop, codes, Ok, Err}
 use Rattle.std.specs.List.{flat_map}
 use Rattle.stage.specs.Answers.{refusal_number, Reply}
+use Rattle.lines.specs.declared.Text.{Text}
 
 -- a number below 1000 in decimal
 unfoldable pub decimal : ℕ → List ℕ
@@ -46,7 +47,16 @@ place_after text out at = cond (fits text out at) (at + length text) at
 unfoldable pub written : List ℕ → List ℕ → ℕ → List ℕ
 written text out at = cond (fits text out at) (take at out ++ text ++ drop (at + length text) out) out
 
--- what every contract of a function that writes says
+-- the bytes and the place after a text is written, by those before
 pub record Writes (text out : List ℕ) (at r : ℕ) (out' : List ℕ) : Type 0 where
   pub answers : r ≡ place_after text out at
   pub leaves : out' ≡ written text out at
+
+-- the reference is still to the same buffer
+abbrev pub SameBuffer : Text → Text → Type 0
+SameBuffer old new = new.buffer.ghost_name ≡ old.buffer.ghost_name
+
+-- what every contract of a function that writes says: the bytes were written where they had room, in the same buffer
+pub record WritesTo (bytes : List ℕ) (old new : Text) : Type 0 where
+  pub text : Writes bytes old.buffer.now old.at new.at new.buffer.now
+  pub same_buffer : SameBuffer old new

@@ -3,8 +3,8 @@
 
 ghost use Rattle.std.specs.Prelude.{◌≡◌, ◌+◌, ◌-◌, ◌*◌, ◌≤◌, ◌<◌, SomeIff, option_map, length};
 ghost use Rattle.lines.specs.Command.{longer, number, last, command_of};
-ghost use Rattle.lines.specs.Inside.{Put, number_and_rest};
-ghost use Rattle.lines.specs.Text.{decimal, line_text, refusal_text, reply_text, lock_text, entries_text, log_text, Writes};
+ghost use Rattle.lines.specs.Inside.{HasRoom, Puts, number_and_rest};
+ghost use Rattle.lines.specs.Text.{decimal, line_text, refusal_text, reply_text, lock_text, entries_text, log_text, WritesTo};
 
 use stage::Reply;
 
@@ -98,8 +98,11 @@ fn left_by(entries: &[u8], bytes: usize) -> Option<usize>
     Some(left)
 }
 
-// A text in a buffer, with the place after it, where the next is put. The buffer is lent and its length fixed: no heap. What writes says that the buffer is the same one as before: so whoever lent it
-// knows what it holds in the end.
+// The bytes of a log's line beside its entries: `log` and the newline.
+const FRAME: usize = 4;
+
+// A text in a buffer, with the place after it, where the next is put. The buffer is lent and its length fixed: no heap. Each method that writes says
+// that the reference is still to the same buffer, so that the lender knows its bytes at the end.
 #[derive(Drop)]
 pub struct Text<'a> {
     pub buffer: &'a mut [u8],
@@ -116,9 +119,8 @@ impl Text<'_> {
 
     // Puts bytes.
     fn put(&mut self, bytes: &[u8])
-        requires { self.old.at + length bytes.now ≤ length self.old.buffer.now }
-        ensures put { Put bytes.now self.old.buffer.now self.old.at self.new.at self.new.buffer.now }
-        ensures same_buffer { self.new.buffer.ghost_name ≡ self.old.buffer.ghost_name }
+        requires { HasRoom self.old (length bytes.now) }
+        ensures { Puts bytes.now self.old self.new }
     {
         let next = self.at + bytes.len();
         self.buffer[self.at..next].copy_from_slice(bytes);
@@ -128,9 +130,8 @@ impl Text<'_> {
     // Puts a number.
     #[tactic(auto, unfolding(crate::specs::Text::decimal))]
     fn put_decimal(&mut self, x: u8)
-        requires { self.old.at + length (decimal x) ≤ length self.old.buffer.now }
-        ensures put { Put (decimal x) self.old.buffer.now self.old.at self.new.at self.new.buffer.now }
-        ensures same_buffer { self.new.buffer.ghost_name ≡ self.old.buffer.ghost_name }
+        requires { HasRoom self.old (length (decimal x)) }
+        ensures { Puts (decimal x) self.old self.new }
     {
         match x {
             0..=9 => self.put(&[b'0' + x]),
@@ -142,9 +143,8 @@ impl Text<'_> {
     // Puts the entries of a log, each with a space in front.
     #[tactic(auto, using(crate::proofs::Entries::entries_within))]
     fn put_entries(&mut self, entries: &[u8])
-        requires { self.old.at + length (entries_text entries.now) ≤ length self.old.buffer.now }
-        ensures put { Put (entries_text entries.now) self.old.buffer.now self.old.at self.new.at self.new.buffer.now }
-        ensures same_buffer { self.new.buffer.ghost_name ≡ self.old.buffer.ghost_name }
+        requires { HasRoom self.old (length (entries_text entries.now)) }
+        ensures { Puts (entries_text entries.now) self.old self.new }
     {
         for &x in entries {
             self.put(b" ");
@@ -154,8 +154,7 @@ impl Text<'_> {
 
     // Writes a line of a word and a number.
     fn put_line(&mut self, word: &[u8], x: u8)
-        ensures writes { Writes (line_text word.now (decimal x)) self.old.buffer.now self.old.at self.new.at self.new.buffer.now }
-        ensures same_buffer { self.new.buffer.ghost_name ≡ self.old.buffer.ghost_name }
+        ensures { WritesTo (line_text word.now (decimal x)) self.old self.new }
     {
         if self.room() < word.len() + digits(x) + 1 {
             return;
@@ -168,8 +167,7 @@ impl Text<'_> {
     // Writes the line of a refusal, by its number.
     #[tactic(auto, unfolding(crate::specs::Text::refusal_text))]
     pub fn put_refusal(&mut self, number: u8)
-        ensures writes { Writes (refusal_text number) self.old.buffer.now self.old.at self.new.at self.new.buffer.now }
-        ensures same_buffer { self.new.buffer.ghost_name ≡ self.old.buffer.ghost_name }
+        ensures { WritesTo (refusal_text number) self.old self.new }
     {
         self.put_line(b"x ", number);
     }
@@ -177,8 +175,7 @@ impl Text<'_> {
     // Writes what a call says.
     #[tactic(auto, unfolding(crate::specs::Text::reply_text))]
     pub fn put_reply(&mut self, reply: Reply)
-        ensures writes { Writes (reply_text reply) self.old.buffer.now self.old.at self.new.at self.new.buffer.now }
-        ensures same_buffer { self.new.buffer.ghost_name ≡ self.old.buffer.ghost_name }
+        ensures { WritesTo (reply_text reply) self.old self.new }
     {
         match reply {
             Ok(answer) => self.put_line(b"", answer.number),
@@ -189,18 +186,16 @@ impl Text<'_> {
     // Writes the line of the lock word.
     #[tactic(auto, unfolding(crate::specs::Text::lock_text))]
     pub fn put_lock(&mut self, lock: u8)
-        ensures writes { Writes (lock_text lock) self.old.buffer.now self.old.at self.new.at self.new.buffer.now }
-        ensures same_buffer { self.new.buffer.ghost_name ≡ self.old.buffer.ghost_name }
+        ensures { WritesTo (lock_text lock) self.old self.new }
     {
         self.put_line(b"lock ", lock);
     }
 
-    // Writes the line of the log's entries, if they leave room for the four bytes of `log` and the newline.
+    // Writes the line of the log's entries, if they leave room for `log` and the newline.
     pub fn put_log(&mut self, entries: &[u8])
-        ensures writes { Writes (log_text entries.now) self.old.buffer.now self.old.at self.new.at self.new.buffer.now }
-        ensures same_buffer { self.new.buffer.ghost_name ≡ self.old.buffer.ghost_name }
+        ensures { WritesTo (log_text entries.now) self.old self.new }
     {
-        let Some(4..) = left_by(entries, self.room()) else {
+        let Some(FRAME..) = left_by(entries, self.room()) else {
             return;
         };
         self.put(b"log");

@@ -6,24 +6,25 @@ use native.Mathlib.Omega.{arith}
 use lib.ListN.{length, take, get_or}
 use Rattle.std.proofs.lemmas.List.{take_more}
 use Rattle.stage.specs.Answers.{Reply}
-use Rattle.lines.specs.Inside.{Put}
-use Rattle.lines.specs.Text.{reply_text, Writes}
+use Rattle.lines.specs.declared.Text.{Text}
+use Rattle.lines.specs.Inside.{Put, HasRoom}
+use Rattle.lines.specs.Text.{reply_text, WritesTo}
 use Rattle.lines.proofs.Texts.{reply_short}
 use Rattle.lines.proofs.Putting.{writes_put, front}
 use Rattle.turning.specs.Inside.{Session, fed, fed_all}
 
 -- an answer that was put has at most six bytes
-module _ (r : Reply) {out : List ℕ} {at at' : ℕ} {out' : List ℕ} (writes : Writes (reply_text r) out at at' out') (room : at + 6 ≤ length out) where
-  put : Put (reply_text r) out at at' out'
-  put = writes_put (omega (arith, reply_short r)) writes
+module _ (r : Reply) {old new : Text} (writes : WritesTo (reply_text r) old new) (room : HasRoom old 6) where
+  put : Put (reply_text r) old.buffer.now old.at new.at new.buffer.now
+  put = writes_put (omega (arith, reply_short r)) writes.text
 
-  pub reply_near : at' ≤ at + 6
+  pub reply_near : new.at ≤ old.at + 6
   reply_near = omega (arith, reply_short r, put.after)
 
-  pub reply_front : take at' out' ≡ take at out ++ reply_text r
+  pub reply_front : take new.at new.buffer.now ≡ take old.at old.buffer.now ++ reply_text r
   reply_front = front put
 
-  pub reply_same : length out' ≡ length out
+  pub reply_same : length new.buffer.now ≡ length old.buffer.now
   reply_same = put.same
 
 pub ruleset replies = (reply_front, reply_same)

@@ -5,8 +5,8 @@
 #![tactic(auto)]
 
 ghost use Rattle.std.specs.Prelude.{◌≡◌, ◌+◌, ◌*◌, ◌≤◌, ℕ, List, [], length, take};
-ghost use Rattle.lines.specs.Inside.{Put};
-ghost use Rattle.lines.specs.Text.{log_text};
+ghost use Rattle.lines.specs.Inside.{Put, HasRoom, Puts};
+ghost use Rattle.lines.specs.Text.{log_text, SameBuffer};
 ghost use Rattle.turning.specs.Inside.{fed, fed_all, finished, grown, standing, taken_of};
 ghost use Rattle.turning.specs.Program.{held_log, end_text};
 ghost use Rattle.turning.specs.Turn.{Turns};
@@ -84,11 +84,11 @@ pub fn turn(image: &mut [u8], line: &[u8]) -> Reply
 // Takes a byte of input, and puts the answer of a line that it ends.
 #[tactic(auto, using(crate::proofs::Feeding::replies), unfolding(crate::specs::Inside::fed, crate::specs::Inside::ended, crate::specs::Inside::standing))]
 fn feed(image: &mut [u8], kept: &mut Kept, x: u8, text: &mut Text)
-    requires { text.old.at + 6 ≤ length text.old.buffer.now }
+    requires { HasRoom text.old 6 }
     ensures session { standing image.new kept.new text.new.buffer.now text.new.at ≡ fed (standing image.old kept.old text.old.buffer.now text.old.at) x }
     ensures at_bound { text.new.at ≤ text.old.at + 6 }
     ensures same_length { length text.new.buffer.now ≡ length text.old.buffer.now }
-    ensures same_buffer { text.new.buffer.ghost_name ≡ text.old.buffer.ghost_name }
+    ensures same_buffer { SameBuffer text.old text.new }
 {
     if x == b'\n' {
         text.put_reply(turn(image, kept.line()));
@@ -125,9 +125,8 @@ fn taken_of(reply: Reply) -> usize
 // Takes the log and puts its line.
 #[tactic(auto, using(crate::proofs::Ending::helds))]
 fn put_held(image: &mut [u8], text: &mut Text)
-    requires { text.old.at + 1028 ≤ length text.old.buffer.now }
-    ensures put { Put (log_text (held_log image.old)) text.old.buffer.now text.old.at text.new.at text.new.buffer.now }
-    ensures same_buffer { text.new.buffer.ghost_name ≡ text.old.buffer.ghost_name }
+    requires { HasRoom text.old 1028 }
+    ensures { Puts (log_text (held_log image.old)) text.old text.new }
 {
     let mut log = [0u8; 256];
     let held = taken_of(whole::take_log(image, &mut log));
@@ -136,9 +135,8 @@ fn put_held(image: &mut [u8], text: &mut Text)
 
 // Puts the lines of the end of input.
 fn put_end(image: &mut [u8], text: &mut Text)
-    requires { text.old.at + 1037 ≤ length text.old.buffer.now }
-    ensures put { Put (end_text image.old) text.old.buffer.now text.old.at text.new.at text.new.buffer.now }
-    ensures same_buffer { text.new.buffer.ghost_name ≡ text.old.buffer.ghost_name }
+    requires { HasRoom text.old 1037 }
+    ensures { Puts (end_text image.old) text.old text.new }
 {
     text.put_lock(image::lock_word(image));
     put_held(image, text);

@@ -4,4 +4,4 @@ use Rattle.turning.proofs.Feeding.{reply_near}
 use Rattle.turning.proofs.feed.Goals as goal
 
 pub returns-then-x-eq10-clause-at_bound : goal.returns-then-x-eq10-clause-at_bound
-returns-then-x-eq10-clause-at_bound c = reply_near _ c.put_reply.ensures.writes c.requires
+returns-then-x-eq10-clause-at_bound c = reply_near _ c.put_reply.ensures c.requires

@@ -11,7 +11,7 @@ use Rattle.turning.proofs.finish.Goals.{then-not-is_empty, else-not-is_empty}
 pub put_end-requires : goal.put_end-requires
 put_end-requires c =
     elim c.if-not-is_empty.branch [
-      | then-not-is_empty w ↦ rw w.text-is (room_left 6 1037 (reply_short _) c.requires w.put_reply.ensures.writes)
+      | then-not-is_empty w ↦ rw w.text-is (room_left 6 1037 (reply_short _) c.requires w.put_reply.ensures)
       | else-not-is_empty w ↦ rw w.text-is (grind arith)
     ]
 
@@ -21,9 +21,9 @@ returns c =
     (rw (← c.line-line.ensures)
     (elim c.if-not-is_empty.branch [
       | then-not-is_empty w ↦
-          finish_line _ _ (grind arith) w.turn.ensures (omega (arith, c.requires)) w.put_reply.ensures.writes
-          (rw (w.image-is, w.text-is) at c.put_end.ensures.put)
+          finish_line _ _ (grind arith) w.turn.ensures (omega (arith, c.requires)) w.put_reply.ensures
+          (rw (w.image-is, w.text-is) at c.put_end.ensures)
       | else-not-is_empty w ↦
           finish_none _ _ (grind arith)
-          (rw (w.image-is, w.text-is) at c.put_end.ensures.put)
+          (rw (w.image-is, w.text-is) at c.put_end.ensures)
     ]))

@@ -7,7 +7,7 @@ use Rattle.turning.proofs.Ending.{end_put}
 use Rattle.turning.proofs.put_end.Goals as goal
 
 pub put_held-requires : goal.put_held-requires
-put_held-requires c = room_left 9 1028 (lock_short _) c.requires c.put_lock.ensures.writes
+put_held-requires c = room_left 9 1028 (lock_short _) c.requires c.put_lock.ensures
 
-pub returns-clause-put : goal.returns-clause-put
-returns-clause-put c = end_put _ _ c.lock_word.ensures (omega arith) c.put_lock.ensures.writes c.put_held.ensures.put
+pub returns : goal.returns
+returns c = end_put _ c.lock_word.ensures (omega arith) c.put_lock.ensures c.put_held.ensures
