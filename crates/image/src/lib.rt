@@ -10,8 +10,9 @@ ghost use Rattle.stage.specs.Calls as Calls;
 ghost use Rattle.stage.specs.Calls.{begin_acquisition, begin_release, admits, capacity};
 ghost use Rattle.stage.specs.Table.{after_step};
 ghost use Rattle.stage.specs.Turns.{next_after};
-ghost use Rattle.inplace.specs.InPlace.{lies, link_at, link_put};
+ghost use Rattle.inplace.specs.InPlace.{lies, link_put};
 ghost use Rattle.layout.specs.Layout.{byte, two, record_at, private_at, shared_at, read, put};
+ghost use Rattle.layout.proofs.CutOut.{cut_out};
 ghost use Rattle.layout.proofs.Stores.{puts};
 ghost use Rattle.layout.proofs.Changes.{private_bytes, shared_bytes, length_bytes, link_in};
 ghost use Rattle.soundness.specs.SoundImage.{sound};
@@ -102,45 +103,30 @@ fn link_in(at: usize, part: Place) -> Place
     }
 }
 
-// The link at a place. (`inplace` reads and puts links of its own: a function for both would be public, and no public function requires anything.)
-#[tactic(auto, unfolding(inplace::specs::InPlace::lies, inplace::specs::InPlace::link_at, layout::specs::Layout::two))]
-fn link_at(image: &[u8], l: Place) -> Link
-    requires { lies l (length image.now) ≡ true }
-    ensures { result ≡ link_at image.now l }
+// The 16 bytes of the record at a place.
+fn bytes_at(image: &[u8], at: usize) -> &[u8; 16]
+    requires { at + 16 ≤ length image.now }
+    ensures { result.now ≡ cut_out image.now at }
 {
-    Link {
-        pointer: image[l.pointer],
-        mark: image[l.pointer + 1],
-        count: two_at(image, l.count),
-    }
+    image[at..].first_chunk().unwrap()
 }
 
 // The private part of the record at a place.
-#[tactic(auto, using(layout::proofs::Changes::w_there), unfolding(inplace::specs::InPlace::lies, layout::specs::Layout::private_at))]
+#[tactic(auto, using(layout::proofs::CutOut::private_there))]
 fn private_at(image: &[u8], at: usize) -> Private
     requires { at + 16 ≤ length image.now }
     ensures { result ≡ private_at image.now at }
 {
-    Private {
-        stage: image[at],
-        own: image[at + 1],
-        prev: image[at + 2],
-        w: link_at(image, link_in(at, W)),
-        s: image[at + 14],
-    }
+    layout::private_of(bytes_at(image, at))
 }
 
 // The shared part of the record at a place.
-#[tactic(auto, using(layout::proofs::Changes::its_there), unfolding(inplace::specs::InPlace::lies, layout::specs::Layout::shared_at))]
+#[tactic(auto, using(layout::proofs::CutOut::shared_there))]
 fn shared_at(image: &[u8], at: usize) -> Shared
     requires { at + 16 ≤ length image.now }
     ensures { result ≡ shared_at image.now at }
 {
-    Shared {
-        link: link_at(image, link_in(at, LINK)),
-        priority: image[at + 12],
-        locked: image[at + 13],
-    }
+    layout::shared_of(bytes_at(image, at))
 }
 
 // Stores a number in two bytes from a place on.

@@ -194,50 +194,15 @@ fn sound_shared(n: u8, its: Shared) -> bool
     sound_link(n, its.link) && its.locked <= 1
 }
 
-// Whether a record is sound, rule by rule. The counts may be any, so they are not read.
-#[tactic(auto, unfolding(crate::specs::Parts::record_right, crate::specs::SoundImage::sound_zeros, layout::specs::Layout::private_at, layout::specs::Layout::shared_at, stage::specs::Sound::sound_link, stage::specs::Sound::sound_private, stage::specs::Sound::sound_shared))]
+// Whether a record is sound, rule by rule.
+#[tactic(auto, unfolding(crate::specs::Parts::record_right, crate::specs::SoundImage::sound_zeros))]
 fn sound_record(bytes: &[u8; 16], n: u8) -> bool
     ensures { result ≡ record_right n bytes.now }
 {
-    let [
-        stage,
-        own,
-        prev,
-        w_pointer,
-        w_mark,
-        zero5,
-        _,
-        _,
-        pointer,
-        mark,
-        _,
-        _,
-        priority,
-        locked,
-        s,
-        zero15,
-    ] = *bytes;
-    let me = Private {
-        stage,
-        own,
-        prev,
-        w: Link {
-            pointer: w_pointer,
-            mark: w_mark,
-            count: 0,
-        },
-        s,
-    };
-    let its = Shared {
-        link: Link {
-            pointer,
-            mark,
-            count: 0,
-        },
-        priority,
-        locked,
-    };
-    (zero5 == 0) & (zero15 == 0) & sound_private(n, me) & sound_shared(n, its)
+    (bytes[5] == 0)
+        & (bytes[15] == 0)
+        & sound_private(n, layout::private_of(bytes))
+        & sound_shared(n, layout::shared_of(bytes))
 }
 
 // Whether all records are sound, one after the other. For a few that takes less time than the tables do.
