@@ -9,7 +9,7 @@ ghost use Rattle.lines.specs.Text.{decimal, line_text, refusal_text, reply_text,
 use stage::Reply;
 
 // A command of a line.
-#[derive(Clone, Copy)]
+#[derive(Clone, Copy, Debug, PartialEq, Eq)]
 pub enum Command {
     SetUp(u32),
     BeginAcquisition(u32, u32),
