@@ -17,7 +17,7 @@ use Rattle.image.proofs.Sound.{written}
 use Rattle.lines.specs.declared.Text.{Text}
 use Rattle.lines.specs.Inside.{Put, HasRoom, Puts}
 use Rattle.lines.specs.Text.{reply_text, lock_text, log_text, WritesTo}
-use Rattle.lines.proofs.Putting.{puts_then, writes_puts}
+use Rattle.lines.proofs.Putting.{put_then, writes_put}
 use Rattle.lines.proofs.Texts.{reply_short, lock_short}
 use Rattle.turning.specs.Inside.{finished, standing, taken_of}
 use Rattle.turning.specs.Program.{last_line, held_log, end_text, text_of}
@@ -45,7 +45,7 @@ pub ruleset helds = (held_short, held_count, held_there)
 -- the two lines of the end
 pub end_put : (b : List ℕ) {k : ℕ} {old mid new : Text} → k ≡ lock_word b → HasRoom old 9 → WritesTo (lock_text k) old mid → Puts (log_text (held_log b)) mid new → Puts (end_text b) old new
 unfolding end_text
-end_put b {k} e h writes put = puts_then (writes_puts (omega (arith, lock_short k)) writes) put (rw e refl)
+end_put b {k} e h writes put = put_then (writes_put (omega (arith, lock_short k)) writes) put (rw e refl)
 
 -- a buffer that a `Text` had holds what was left there
 pub put_left : {text out : List ℕ} {at r : ℕ} {out' out'' : List ℕ} → out'' ≡ out' → Put text out at r out' → Put text out at r out''
@@ -65,4 +65,4 @@ pub finish_line : (b line : List ℕ) {old mid new : Text} {r : Reply} {b' : Lis
 unfolding finished standing text_of last_line
 finish_line b [] begun turns h writes put = absurd (begun refl)
 finish_line b (x ∷ l) {r = r} begun turns h writes put =
-    (puts_then (writes_puts (omega (arith, reply_short r)) writes) put (rw (turns.says, turns.leaves) refl)).text
+    (put_then (writes_put (omega (arith, reply_short r)) writes) put (rw (turns.says, turns.leaves) refl)).text

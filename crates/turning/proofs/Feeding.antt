@@ -7,7 +7,7 @@ use lib.ListN.{length, take, get_or}
 use Rattle.std.proofs.lemmas.List.{take_more}
 use Rattle.stage.specs.Answers.{Reply}
 use Rattle.lines.specs.declared.Text.{Text}
-use Rattle.lines.specs.Inside.{Put, HasRoom}
+use Rattle.lines.specs.Inside.{HasRoom, Puts}
 use Rattle.lines.specs.Text.{reply_text, WritesTo}
 use Rattle.lines.proofs.Texts.{reply_short}
 use Rattle.lines.proofs.Putting.{writes_put, front}
@@ -15,17 +15,17 @@ use Rattle.turning.specs.Inside.{Session, fed, fed_all}
 
 -- an answer that was put has at most six bytes
 module _ (r : Reply) {old new : Text} (writes : WritesTo (reply_text r) old new) (room : HasRoom old 6) where
-  put : Put (reply_text r) old.buffer.now old.at new.at new.buffer.now
-  put = writes_put (omega (arith, reply_short r)) writes.text
+  put : Puts (reply_text r) old new
+  put = writes_put (omega (arith, reply_short r)) writes
 
   pub reply_near : new.at ≤ old.at + 6
-  reply_near = omega (arith, reply_short r, put.after)
+  reply_near = omega (arith, reply_short r, put.text.after)
 
   pub reply_front : take new.at new.buffer.now ≡ take old.at old.buffer.now ++ reply_text r
   reply_front = front put
 
   pub reply_same : length new.buffer.now ≡ length old.buffer.now
-  reply_same = put.same
+  reply_same = put.text.same
 
 pub ruleset replies = (reply_front, reply_same)
 
