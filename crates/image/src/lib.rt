@@ -108,7 +108,7 @@ fn bytes_at(image: &[u8], at: usize) -> &[u8; 16]
     requires { at + 16 ≤ length image.now }
     ensures { result.now ≡ cut_out image.now at }
 {
-    image[at..].first_chunk().unwrap()
+    image[at..at + 16].first_chunk().unwrap()
 }
 
 // The private part of the record at a place.
