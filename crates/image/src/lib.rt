@@ -103,12 +103,12 @@ fn link_in(at: usize, part: Place) -> Place
     }
 }
 
-// The 16 bytes of the record at a place.
+// The 16 bytes of the record at a place. The slice ends where they do, so that compiled its length is not looked at.
 fn bytes_at(image: &[u8], at: usize) -> &[u8; 16]
     requires { at + 16 ≤ length image.now }
     ensures { result.now ≡ cut_out image.now at }
 {
-    image[at..].first_chunk().unwrap()
+    image[at..at + 16].first_chunk().unwrap()
 }
 
 // The private part of the record at a place.

@@ -7,7 +7,7 @@ ghost use Rattle.layout.specs.Layout.{private_at, shared_at};
 use link::Link;
 use stage::{Private, Shared};
 
-// The private part of a record.
+// The private part of a record, from its bytes.
 #[tactic(auto, unfolding(crate::specs::Layout::private_at, crate::specs::Layout::two))]
 pub fn private_of(bytes: &[u8; 16]) -> Private
     ensures { result ≡ private_at bytes.now 0 }
@@ -26,7 +26,7 @@ pub fn private_of(bytes: &[u8; 16]) -> Private
     }
 }
 
-// The shared part of a record.
+// The shared part of a record, from its bytes.
 #[tactic(auto, unfolding(crate::specs::Layout::shared_at, crate::specs::Layout::two))]
 pub fn shared_of(bytes: &[u8; 16]) -> Shared
     ensures { result ≡ shared_at bytes.now 0 }
