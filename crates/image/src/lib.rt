@@ -50,8 +50,8 @@ struct Looked {
     stepped: Stepped,
 }
 
-// The greatest priority that an acquisition may begin with, and the stage of a module that is inside. They have names so that the tests by
-// them keep the names of their goals in a wrong program.
+// The greatest priority that an acquisition may begin with, and the stage of a module that is inside. Goals are named after
+// the text of a test: with a name here they stay the same in a wrong program that has another number (docs/DECISIONS.md, section 8).
 const GREATEST: u32 = 254;
 
 const INSIDE: u8 = 13;

@@ -1,8 +1,8 @@
 // A link where it lies in bytes that the caller lends, and its swap there.
 //
 // 02, R-3: "Compare in the image itself; no answer or byte differs." It is the swap of the crate `link`, held to the same definition, but
-// nothing is copied out first: pointer, mark and count are compared where they lie, and only what changes is written. So neither the crate
-// `link` nor the machine above it knows a byte.
+// nothing is copied out first: pointer, mark and count are compared where they lie. So neither the crate `link` nor the machine above it knows a
+// byte.
 #![tactic(auto)]
 
 ghost use Rattle.std.specs.Prelude.{◌≡◌, true, length};

@@ -107,8 +107,8 @@ fn greatest(n: u8) -> [[u8; 16]; 5]
     [greatest_row(0, n), busy, busy, busy, busy]
 }
 
-// How far off the bytes of all records are, with one more record. Nowhere, if so before and each of its bytes lies between its two. (Four slices
-// side by side by `zip` have no proof yet.)
+// How far off the bytes of all records are, with one more record. Nowhere, if so before and each of its bytes lies between its two. (By `zip`
+// the four would go side by side; the borrow checker does not cover that yet.)
 #[tactic(auto, unfolding(crate::specs::Parts::below))]
 fn farther(mut off: [u8; 16], bytes: &[u8; 16], least: &[u8; 16], greatest: &[u8; 16]) -> [u8; 16]
     ensures lanes { list_all (within 0 0) result ≡ (list_all (within 0 0) off && lanes_right bytes.now least.now greatest.now) }
@@ -204,7 +204,7 @@ fn sound_record(bytes: &[u8; 16], n: u8) -> bool
     (bytes[5] == 0) & (bytes[15] == 0) & sound_private(n, me) & sound_shared(n, its)
 }
 
-// Whether all records are sound, one after the other. For a few that takes less time than the tables do.
+// Whether all records are sound, one after the other. For one module that takes less time than the lanes do.
 fn sound_few(records: &[[u8; 16]], n: u8) -> bool
     ensures { result ≡ list_all (record_right n) records.now }
 {

@@ -149,7 +149,7 @@ fn finish(image: &mut [u8], kept: &Kept, out: &mut [u8]) -> usize
 {
     let mut text = Text { buffer: out, at: 0 };
     let line = kept.line();
-    let is_empty = line.is_empty();
+    let is_empty = line.is_empty(); // a name that goals keep in a wrong program
     if !is_empty {
         text.put_reply(turn(image, line));
     }
