@@ -157,24 +157,61 @@ fn finish(image: &mut [u8], kept: &Kept, out: &mut [u8]) -> usize
     text.at
 }
 
+// How many bytes of input were put at the front of the block: none at the end of the input, and none where reading fails.
+fn read_some<R: Read>(input: &mut R, block: &mut [u8]) -> usize
+    ensures { result ≤ length block.new }
+{
+    input.read(block).unwrap_or(0)
+}
+
+// Reads a block of input and writes its answers, whatever the block's length; whether there was any.
+fn answer_some<R: Read, W: Write>(
+    input: &mut R,
+    output: &mut W,
+    image: &mut [u8],
+    kept: &mut Kept,
+    block: &mut [u8],
+    out: &mut [u8],
+) -> bool
+    requires { 6 * length block.old ≤ length out.old }
+{
+    let n = read_some(input, block);
+    if n == 0 {
+        return false;
+    }
+    let end = answer(image, kept, &block[..n], out);
+    let _ = output.write_all(&out[..end]);
+    true
+}
+
+// Takes all of the input, a block at a time. A proved loop has to end, and nothing says that the input does: so this one counts its turns, up to a
+// number that no run uses up.
+fn answer_all<R: Read, W: Write>(
+    input: &mut R,
+    output: &mut W,
+    image: &mut [u8],
+    kept: &mut Kept,
+    out: &mut [u8],
+)
+    requires { 393216 ≤ length out.old }
+{
+    let mut block = [0u8; 65536];
+    for _ in 0..u64::MAX {
+        if !answer_some(input, output, image, kept, &mut block, out) {
+            break;
+        }
+    }
+}
+
 // The program, on the input that it reads and the output that it writes. The text of a block has at most six bytes for each of its own, were they
 // all newlines.
 //
-// Where reading fails the input is at its end, and where writing fails there is nobody to tell. A proved loop has to end, and nothing says that
-// the input does: so this one counts its turns, up to a number that no run uses up.
+// Where reading fails the input is at its end, and where writing fails there is nobody to tell.
 pub fn run<R: Read, W: Write>(input: &mut R, output: &mut W) {
     let mut image = [0u8; 1292];
     let mut kept = Kept::new();
-    let mut block = [0u8; 65536];
     let mut out = [0u8; 393216];
-    for _ in 0..u64::MAX {
-        let n = input.read(&mut block).unwrap_or(0);
-        if n == 0 {
-            break;
-        }
-        let end = answer(&mut image, &mut kept, &block[..n], &mut out);
-        let _ = output.write_all(&out[..end]);
-    }
+    answer_all(input, output, &mut image, &mut kept, &mut out);
     let end = finish(&mut image, &kept, &mut out);
     let _ = output.write_all(&out[..end]);
 }
