@@ -173,7 +173,7 @@ impl Text<'_> {
     }
 
     // Writes what a call says.
-    #[tactic(auto, unfolding(crate::specs::Text::reply_text))]
+    #[tactic(auto, unfolding(crate::specs::Text::reply_text, crate::specs::Text::refusal_text))]
     pub fn put_reply(&mut self, reply: Reply)
         ensures { WritesTo (reply_text reply) self.old self.new }
     {
